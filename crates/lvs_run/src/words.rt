@@ -3,7 +3,8 @@
 ghost use Rattle.std.specs.Prelude.{◌≡◌, map, IfOk, IsErrOf, None, Some, string_bytes};
 ghost use Rattle.std.specs.Option.{option_map};
 ghost use Rattle.lvs_files.specs.Files.{AreApart};
-ghost use Rattle.lvs_run.specs.Words.{AreWorkers, IsFairSaid, IsFairWork, ToReport, blank_files};
+ghost use Rattle.lvs_run.specs.Words.{AreInverters, AreWorkers, IsFairSaid, IsFairWork, ToReport};
+ghost use Rattle.lvs_run.specs.Words.{ToShapes, blank_files, chip_paths};
 ghost use Rattle.lvs_run.specs.Words.{built_of, outputs_of, said, work_paths};
 ghost use Rattle.lvs_words.specs.Commands.{said_of};
 
@@ -64,6 +65,13 @@ pub enum Work {
     Chip(ChipTask),
 }
 
+// The file of derived layers alone.
+fn shapes_outputs(shapes: String) -> Outputs
+    ensures { outputs_of result ≡ ToShapes (string_bytes shapes) }
+{
+    Outputs::Layout(LayoutOutputs::Shapes(shapes))
+}
+
 // The files of a comparison.
 fn report_outputs(schematic: String, shapes: String, netlist: String, report: String) -> Outputs
     ensures { outputs_of result ≡ ToReport (string_bytes schematic) (string_bytes shapes)
@@ -110,6 +118,21 @@ fn files(
     })
 }
 
+// The command that makes a chip.
+fn chip(n: u32, seed: u64, workers: usize, prefix: String) -> Work
+    requires workers { AreWorkers workers }
+    requires inverters { AreInverters n }
+    ensures paths { work_paths result ≡ chip_paths n seed (string_bytes prefix) }
+    ensures fair { IsFairWork result }
+{
+    Work::Chip(ChipTask {
+        n,
+        seed,
+        workers,
+        prefix,
+    })
+}
+
 fn work_of(stated: Stated) -> Work
     requires { IsFairSaid (said_of stated) }
     ensures paths { work_paths result ≡ built_of (said_of stated) }
@@ -121,10 +144,7 @@ fn work_of(stated: Stated) -> Work
             layout,
             rules,
             shapes,
-        } => {
-            let outputs = Outputs::Layout(LayoutOutputs::Shapes(shapes));
-            files(layout, rules, None, 1, outputs, shared)
-        }
+        } => files(layout, rules, None, 1, shapes_outputs(shapes), shared),
         Command::Extract {
             layout,
             rules,
@@ -154,12 +174,7 @@ fn work_of(stated: Stated) -> Work
             seed,
             workers,
             prefix,
-        } => Work::Chip(ChipTask {
-            n,
-            seed,
-            workers,
-            prefix,
-        }),
+        } => chip(n, seed, workers, prefix),
     }
 }
 
