@@ -1,11 +1,11 @@
 -- The options of a command, by name.
-use Rattle.std.specs.Prelude.{ℕ, Bool, true, false, List, Option, codes}
+use Rattle.std.specs.Prelude.{ℕ, Bool, true, false, List, Option, Some, None, codes}
 use Rattle.std.specs.Prelude.{if◌then◌else◌}
 use Rattle.std.specs.Str.{bytes_eq}
 use denote.Enum.Bare.{sameb}
 use Rattle.lvs_words.specs.contracts.flag.Flag.{the_type}
 use Rattle.lvs_words.specs.declared.flag.Flag.{Flag}
-use Rattle.lvs_words.specs.declared.flag.Flag.TheVariants.{Shapes}
+use Rattle.lvs_words.specs.declared.flag.Flag.TheVariants.{Layout, Rules, Schematic, Shapes}
 use Rattle.lvs_words.specs.declared.flag.Flag.TheVariants.{Netlist, Report, Top, Workers}
 
 -- the option of this name
