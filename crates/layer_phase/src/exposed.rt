@@ -2,7 +2,7 @@
 //! disturbed for an input layer and flat on one. Everywhere else the placed cell keeps what lies
 //! there, or nothing lies there.
 ghost use Rattle.std.specs.Prelude.{◌≡◌, ◌<◌, ◌≤◌, ◌^◌, [], ◌++◌, ◌∷◌, ℕ, List, Some, length};
-ghost use Rattle.std.specs.Prelude.{slice_get, true, IfOk, IfSome, OnOk};
+ghost use Rattle.std.specs.Prelude.{◌⊎◌, slice_get, true, IfOk, IfSome, OnOk};
 ghost use Rattle.std.specs.List.{All};
 ghost use Rattle.geo_base.specs.Near.{IsNearRect};
 ghost use Rattle.geo_base.specs.Rects.{IsRect, has};
@@ -179,8 +179,19 @@ fn push_all_flat(
     Ok(())
 }
 
-// The squares of a window that lie within so many squares of both sets: where that is 0, those of
-// the second, which lies in the first.
+// That of two sets which has fewer rectangles, the first where both have as many.
+fn fewer<'a>(one: &'a RectSet, other: &'a RectSet) -> &'a RectSet
+    ensures { (result.now ≡ one.now) ⊎ (result.now ≡ other.now) }
+{
+    if other.rects().len() < one.rects().len() {
+        return other;
+    }
+    one
+}
+
+// Squares of a window, among them all that lie within so many squares of both sets: these, or all so
+// near the first set, whatever takes fewer rectangles. Where the number is 0, the second lies in the
+// first.
 fn near_both(
     alloc: Global,
     places: &RectSet,
@@ -198,14 +209,16 @@ fn near_both(
         → covers r q ≡ true) }
 {
     if most == 0 {
-        let part = flat.window(alloc, *window)?;
+        let chosen = fewer(flat, places);
+        let part = chosen.window(alloc, *window)?;
         let _near = part.rects();
         return Ok(part);
     }
     let stirred = sized(alloc, places, most)?;
     let wide = sized(alloc, flat, most)?;
     let set = combine(alloc, &stirred, &wide, Op::And)?;
-    let part = set.window(alloc, *window)?;
+    let chosen = fewer(&set, &stirred);
+    let part = chosen.window(alloc, *window)?;
     let _near = part.rects();
     Ok(part)
 }
