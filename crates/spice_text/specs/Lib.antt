@@ -1,4 +1,5 @@
 pub mod Gather
+pub mod Kept
 pub mod Circuits
 pub mod Faults
 pub mod Search

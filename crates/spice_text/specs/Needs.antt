@@ -1,7 +1,8 @@
 -- Which global names a circuit needs: a chain of calls, none of whose circuits lists the name as a
 -- pin, leads to a card that uses it.
 use Rattle.std.specs.Prelude.{◌≡◌, ◌⊎◌, ℕ, Bool, true, false, List, [], ◌∷◌, ◌++◌, flat_map}
-use Rattle.std.specs.Prelude.{slice_get, Option, Some, None}
+use Rattle.std.specs.Prelude.{◌<◌, length, slice_get, Option, Some, None}
+use Rattle.std.specs.List.{All}
 use Rattle.plain_netlist.specs.Chains.{IsChain}
 use Rattle.call_order.specs.Order.{Calls}
 use Rattle.text_table.specs.Texts.{has_text, with_text}
@@ -13,6 +14,10 @@ use Rattle.spice_text.specs.Circuits.{call_lists}
 abbrev pub first_seen : List (List ℕ) → List (List ℕ) → List (List ℕ)
 first_seen seen [] = seen
 first_seen seen (n ∷ ns) = first_seen (with_text seen n) ns
+
+-- each of these is a name, which has one byte or more
+abbrev pub HaveBytes : List (List ℕ) → Type 0
+HaveBytes names = All (λ name. 0 < length name) names
 
 -- the nets of a transistor in the order of its card
 abbrev pub device_nets : DeviceCard → List (List ℕ)

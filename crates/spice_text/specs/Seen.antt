@@ -1,6 +1,6 @@
 -- What the code's records are.
 use Rattle.std.specs.Prelude.{◌≡◌, map, Option, Some, None, Result, Err}
-use Rattle.spice_rows.specs.Seen.{device_seen, call_seen}
+use Rattle.spice_rows.specs.Seen.{call_seen}
 use Rattle.spice_rows.specs.declared.fault.SpiceFault.{SpiceFault}
 use Rattle.spice_rows.specs.declared.fault.SpiceFault.TheVariants.{NoMemory}
 use Rattle.spice_text.specs.Gather.{Circuit, Cards}
@@ -12,7 +12,7 @@ circuit_seen g = record {
   line = g.line;
   name = g.name;
   pins = g.pins.items;
-  devices = map device_seen g.devices.items;
+  devices = g.devices.items;
   calls = map call_seen g.calls.items;
 }
 

@@ -10,10 +10,10 @@ use Rattle.spice_rows.specs.Rows.{CallCard}
 use Rattle.spice_text.specs.Gather.{Circuit}
 use Rattle.spice_text.specs.Circuits.{called_in, call_lists}
 use Rattle.spice_text.specs.Needs.{first_seen, used_nets, is_pin, is_used, Needs}
-use Rattle.spice_text.specs.declared.nets.Nets.{Nets}
+use Rattle.spice_text.specs.declared.needs.Globals.{Globals}
 
 -- global names, each once, few enough for numbers of 32 bits
-pub record AreGlobals (globals : Nets) : Type 0 where
+pub record AreGlobals (globals : Globals) : Type 0 where
   pub names : globals.names.items ≡ globals.table
   pub apart : AreApart globals.table
   pub few : length globals.table < 2 ^ 32

@@ -1,12 +1,13 @@
 //! The cards of a text, gathered by circuit.
 
-ghost use Rattle.std.specs.Prelude.{◌≡◌, ◌++◌, IfErr, IfOk, OnOk, map, replicate};
+ghost use Rattle.std.specs.Prelude.{◌≡◌, ◌++◌, IfErr, IfOk, OnOk, replicate};
 ghost use Rattle.spice_rows.specs.Sizes.{read_limit};
 ghost use Rattle.spice_rows.specs.Seen.{device_seen};
 ghost use Rattle.spice_text.specs.Gather.{begun, reading_of};
 ghost use Rattle.spice_text.specs.Seen.{circuit_seen, cards_seen, SaysFault};
 ghost use Rattle.std.specs.Prelude.{codes, [], Ok};
 
+use crate::kept::KeptDevice;
 use net_names::Name;
 use spice_cards::CardReader;
 use spice_rows::{CallCard, CardRow, DeviceCard, SpiceFault, read_card};
@@ -18,7 +19,7 @@ pub struct CircuitCards {
     pub line: u64,
     pub name: Name,
     pub pins: Vec<Name>,
-    pub devices: Vec<DeviceCard>,
+    pub devices: Vec<KeptDevice>,
     pub calls: Vec<CallCard>,
 }
 
@@ -55,19 +56,15 @@ fn top(alloc: Global, line: u64) -> Result<CircuitCards, AllocError>
 // So many equal devices, one after another.
 fn push_devices(
     alloc: Global,
-    out: &mut Vec<DeviceCard>,
+    out: &mut Vec<KeptDevice>,
     device: DeviceCard,
     copies: u32,
 ) -> Result<(), AllocError>
-    ensures { OnOk result (map device_seen out.new.items
-        ≡ map device_seen out.old.items ++ replicate copies (device_seen device)) }
+    ensures { OnOk result (out.new.items
+        ≡ out.old.items ++ replicate copies (device_seen device)) }
 {
-    if copies == 1 {
-        out.push(device)?;
-        return Ok(());
-    }
     'copies: for _copy in 0..copies {
-        out.push(device.try_clone(alloc)?)?;
+        out.push(KeptDevice::new(alloc, &device)?)?;
     }
     Ok(())
 }

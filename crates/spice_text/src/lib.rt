@@ -6,6 +6,7 @@ mod circuits;
 mod faults;
 mod fits;
 mod gather;
+mod kept;
 mod laws;
 mod needs;
 mod nets;

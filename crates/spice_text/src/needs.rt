@@ -5,7 +5,7 @@ ghost use Rattle.std.specs.Prelude.{IfOk, OnOk};
 ghost use Rattle.std.specs.List.{filter};
 ghost use Rattle.std.specs.List.Sorted.{IsStrictlyIncreasing};
 ghost use Rattle.call_order.specs.Order.{lists, IsCallOrder};
-ghost use Rattle.spice_rows.specs.Seen.{device_seen, call_seen};
+ghost use Rattle.spice_rows.specs.Seen.{call_seen};
 ghost use Rattle.spice_text.specs.Circuits.{call_lists};
 ghost use Rattle.spice_text.specs.Needs.{first_seen, device_nets, used_nets};
 ghost use Rattle.spice_text.specs.Table.{AreGlobals, has_number, with_number, with_numbers};
@@ -14,29 +14,40 @@ ghost use Rattle.spice_text.specs.Table.{IsNeedTable};
 ghost use Rattle.spice_text.specs.Seen.{circuit_seen};
 
 use crate::gather::CircuitCards;
+use crate::kept::KeptDevice;
 use crate::nets::{Nets, row_at};
 use list_base::number;
 use net_names::Name;
-use spice_rows::{CallCard, DeviceCard};
+use spice_rows::CallCard;
 use std::alloc::{AllocError, Global};
 use text_table::TextTable;
 
-/// The names, each once, in order of first appearance. 2^32 of them are refused.
-pub fn each_once(alloc: Global, names: &[Name]) -> Result<Nets, AllocError>
-    ensures table { IfOk result (λ nets. nets.table ≡ first_seen [] names.now) }
-    ensures globals { IfOk result AreGlobals }
-{
-    let mut nets = Nets::new(alloc);
-    nets.see_all(alloc, names)?;
-    number(nets.table.len())?;
-    Ok(nets)
+/// Global names, each once: a table in which they are looked up, and the names by their places.
+#[derive(Drop)]
+pub struct Globals {
+    pub table: TextTable,
+    pub names: Vec<Name>,
 }
 
-fn push_number(out: &mut Vec<u32>, globals: &TextTable, name: &Name) -> Result<(), AllocError>
+/// The names, each once, in order of first appearance. 2^32 of them are refused.
+pub fn each_once(alloc: Global, names: &[Name]) -> Result<Globals, AllocError>
+    ensures table { IfOk result (λ globals. globals.table ≡ first_seen [] names.now) }
+    ensures globals { IfOk result AreGlobals }
+{
+    let nets = Nets::of(alloc, names)?;
+    number(nets.table.len())?;
+    let again = Nets::of(alloc, names)?;
+    Ok(Globals {
+        table: nets.table,
+        names: again.into_names(alloc)?,
+    })
+}
+
+fn push_number(out: &mut Vec<u32>, globals: &TextTable, name: &[u8]) -> Result<(), AllocError>
     requires { length globals.now < 2 ^ 32 }
     ensures { OnOk result (out.new.items ≡ with_number globals.now out.old.items name.now) }
 {
-    let place = globals.place(name.bytes());
+    let place = globals.place(name);
     if place < globals.len() {
         out.push(place as u32)?;
     }
@@ -49,32 +60,32 @@ fn push_all(out: &mut Vec<u32>, globals: &TextTable, names: &[Name]) -> Result<(
 {
     let mut rest = names;
     'names: while let [name, more @ ..] = rest {
-        push_number(out, globals, name)?;
+        push_number(out, globals, name.bytes())?;
         rest = more;
     }
     Ok(())
 }
 
-fn push_device(out: &mut Vec<u32>, globals: &TextTable, d: &DeviceCard) -> Result<(), AllocError>
+fn push_device(out: &mut Vec<u32>, globals: &TextTable, d: &KeptDevice) -> Result<(), AllocError>
     requires { length globals.now < 2 ^ 32 }
     ensures { OnOk result (out.new.items
-        ≡ with_numbers globals.now out.old.items (device_nets (device_seen d.now))) }
+        ≡ with_numbers globals.now out.old.items (device_nets d.now)) }
 {
-    push_number(out, globals, &d.drain)?;
-    push_number(out, globals, &d.gate)?;
-    push_number(out, globals, &d.source)?;
-    push_number(out, globals, &d.bulk)
+    push_number(out, globals, d.drain())?;
+    push_number(out, globals, d.gate())?;
+    push_number(out, globals, d.source())?;
+    push_number(out, globals, d.bulk())
 }
 
 fn push_devices(
     out: &mut Vec<u32>,
     globals: &TextTable,
-    devices: &[DeviceCard],
+    devices: &[KeptDevice],
 ) -> Result<(), AllocError>
     requires { length globals.now < 2 ^ 32 }
     ensures { OnOk result (out.new.items
         ≡ with_numbers globals.now out.old.items
-        (flat_map device_nets (map device_seen devices.now))) }
+        (flat_map device_nets devices.now)) }
 {
     let mut rest = devices;
     'devices: while let [device, more @ ..] = rest {
@@ -139,25 +150,6 @@ fn rising(numbers: Vec<u32>) -> Vec<u32>
     numbers
 }
 
-fn see_all(alloc: Global, table: &mut TextTable, names: &[Name]) -> Result<(), AllocError>
-    ensures { OnOk result (table.new ≡ first_seen table.old names.now) }
-{
-    let mut rest = names;
-    'names: while let [name, more @ ..] = rest {
-        table.number(alloc, name.bytes())?;
-        rest = more;
-    }
-    Ok(())
-}
-
-fn pins(alloc: Global, c: &CircuitCards) -> Result<TextTable, AllocError>
-    ensures { IfOk result (λ pins. pins ≡ first_seen [] (circuit_seen c.now).pins) }
-{
-    let mut pins = TextTable::new(alloc);
-    see_all(alloc, &mut pins, &c.pins)?;
-    Ok(pins)
-}
-
 fn is_free(pins: &TextTable, globals: &[Name], j: u32) -> bool
     ensures { result ≡ is_free pins.now globals.now j }
 {
@@ -199,8 +191,8 @@ fn less_pins(
     if numbers.is_empty() {
         return Ok(Vec::new(alloc));
     }
-    let pins = pins(alloc, c)?;
-    free_numbers(alloc, &pins, globals, numbers)
+    let pins = Nets::of(alloc, &c.pins)?;
+    free_numbers(alloc, &pins.table, globals, numbers)
 }
 
 // The global names that a circuit needs, where the rows of those that it calls are there.
@@ -208,7 +200,7 @@ fn need_row(
     alloc: Global,
     c: &CircuitCards,
     called: &[u32],
-    globals: &Nets,
+    globals: &Globals,
     rows: &[Vec<u32>],
 ) -> Result<Vec<u32>, AllocError>
     requires { AreGlobals globals.now }
@@ -226,7 +218,7 @@ fn settle(
     alloc: Global,
     circuits: &[CircuitCards],
     calls: &[Vec<u32>],
-    globals: &Nets,
+    globals: &Globals,
     rows: &mut Vec<Vec<u32>>,
     k: usize,
 ) -> Result<(), AllocError>
@@ -260,7 +252,7 @@ pub fn need_table(
     circuits: &[CircuitCards],
     calls: &[Vec<u32>],
     order: &[u32],
-    globals: &Nets,
+    globals: &Globals,
 ) -> Result<Vec<Vec<u32>>, AllocError>
     requires globals { AreGlobals globals.now }
     requires calls { lists calls.now ≡ call_lists (map circuit_seen circuits.now) }

@@ -3,60 +3,68 @@
 ghost use Rattle.std.specs.Prelude.{◌≡◌, ◌∷◌, [], ◌<◌, ◌^◌, flat_map, map, length, slice_index_or};
 ghost use Rattle.std.specs.Prelude.{IfOk, OnOk};
 ghost use Rattle.call_order.specs.Order.{lists};
-ghost use Rattle.spice_rows.specs.Seen.{device_seen, call_seen};
-ghost use Rattle.spice_text.specs.Needs.{first_seen, device_nets};
+ghost use Rattle.spice_rows.specs.Seen.{call_seen};
+ghost use Rattle.spice_text.specs.Needs.{first_seen, device_nets, HaveBytes};
 ghost use Rattle.spice_text.specs.Table.{picked, needed_of, seen_with_needs};
 
+use crate::kept::KeptDevice;
 use net_names::Name;
-use spice_rows::{CallCard, DeviceCard};
+use spice_rows::CallCard;
 use std::alloc::{AllocError, Global};
 use text_table::TextTable;
 
-/// The names of nets by their numbers, in order of first appearance.
+/// The names of nets, each once and by its number, in order of first appearance.
 #[derive(Drop)]
 pub struct Nets {
     pub table: TextTable,
-    pub names: Vec<Name>,
 }
 
 impl Nets {
-    ghost use Rattle.std.specs.Prelude.{◌≡◌, ◌∷◌, [], flat_map, map, OnOk};
+    ghost use Rattle.std.specs.Prelude.{◌≡◌, ◌<◌, ◌∷◌, [], flat_map, length, map, IfOk, OnOk};
     ghost use Rattle.call_order.specs.Order.{lists};
-    ghost use Rattle.spice_rows.specs.Seen.{device_seen, call_seen};
-    ghost use Rattle.spice_text.specs.Needs.{first_seen, device_nets};
+    ghost use Rattle.spice_rows.specs.Seen.{call_seen};
+    ghost use Rattle.spice_text.specs.Needs.{first_seen, device_nets, HaveBytes};
     ghost use Rattle.spice_text.specs.Table.{picked, needed_of, seen_with_needs};
 
-    /// No nets.
-    pub fn new(alloc: Global) -> Nets
+    fn new(alloc: Global) -> Nets
         ensures table { result.table ≡ [] }
-        ensures names { result.names.items ≡ [] }
+        ensures names { HaveBytes result.table }
     {
         Nets {
             table: TextTable::new(alloc),
-            names: Vec::new(alloc),
         }
     }
 
-    fn see(&mut self, alloc: Global, name: &Name) -> Result<(), AllocError>
-        requires { self.old.names.items ≡ self.old.table }
-        ensures table { OnOk result (self.new.table ≡ first_seen self.old.table (name.now ∷ [])) }
-        ensures names { OnOk result (self.new.names.items ≡ self.new.table) }
+    /// The nets of these names.
+    pub fn of(alloc: Global, names: &[Name]) -> Result<Nets, AllocError>
+        ensures table { IfOk result (λ nets. nets.table ≡ first_seen [] names.now) }
+        ensures names { IfOk result (λ nets. HaveBytes nets.table) }
     {
-        if !self.table.contains(name.bytes()) {
-            self.table.add(alloc, name.bytes())?;
-            self.names.push(name.try_clone(alloc)?)?;
+        let mut nets = Nets::new(alloc);
+        nets.see_all(alloc, names)?;
+        Ok(nets)
+    }
+
+    fn see(&mut self, alloc: Global, name: &[u8]) -> Result<(), AllocError>
+        requires names { HaveBytes self.old.table }
+        requires some { 0 < length name.now }
+        ensures table { OnOk result (self.new.table ≡ first_seen self.old.table (name.now ∷ [])) }
+        ensures names { OnOk result (HaveBytes self.new.table) }
+    {
+        if !self.table.contains(name) {
+            self.table.add(alloc, name)?;
         }
         Ok(())
     }
 
-    pub fn see_all(&mut self, alloc: Global, names: &[Name]) -> Result<(), AllocError>
-        requires { self.old.names.items ≡ self.old.table }
+    fn see_all(&mut self, alloc: Global, names: &[Name]) -> Result<(), AllocError>
+        requires { HaveBytes self.old.table }
         ensures table { OnOk result (self.new.table ≡ first_seen self.old.table names.now) }
-        ensures names { OnOk result (self.new.names.items ≡ self.new.table) }
+        ensures names { OnOk result (HaveBytes self.new.table) }
     {
         let mut rest = names;
         'names: while let [name, more @ ..] = rest {
-            self.see(alloc, name)?;
+            self.see(alloc, name.bytes())?;
             rest = more;
         }
         Ok(())
@@ -69,38 +77,38 @@ impl Nets {
         row: &[u32],
         globals: &[Name],
     ) -> Result<(), AllocError>
-        requires { self.old.names.items ≡ self.old.table }
+        requires { HaveBytes self.old.table }
         ensures table { OnOk result
             (self.new.table ≡ first_seen self.old.table (picked row.now globals.now)) }
-        ensures names { OnOk result (self.new.names.items ≡ self.new.table) }
+        ensures names { OnOk result (HaveBytes self.new.table) }
     {
         let mut rest = row;
         'numbers: while let [j, more @ ..] = rest {
             if let Some(name) = globals.get(*j as usize) {
-                self.see(alloc, name)?;
+                self.see(alloc, name.bytes())?;
             }
             rest = more;
         }
         Ok(())
     }
 
-    fn see_device(&mut self, alloc: Global, d: &DeviceCard) -> Result<(), AllocError>
-        requires { self.old.names.items ≡ self.old.table }
+    fn see_device(&mut self, alloc: Global, d: &KeptDevice) -> Result<(), AllocError>
+        requires { HaveBytes self.old.table }
         ensures table { OnOk result
-            (self.new.table ≡ first_seen self.old.table (device_nets (device_seen d.now))) }
-        ensures names { OnOk result (self.new.names.items ≡ self.new.table) }
+            (self.new.table ≡ first_seen self.old.table (device_nets d.now)) }
+        ensures names { OnOk result (HaveBytes self.new.table) }
     {
-        self.see(alloc, &d.drain)?;
-        self.see(alloc, &d.gate)?;
-        self.see(alloc, &d.source)?;
-        self.see(alloc, &d.bulk)
+        self.see(alloc, d.drain())?;
+        self.see(alloc, d.gate())?;
+        self.see(alloc, d.source())?;
+        self.see(alloc, d.bulk())
     }
 
-    pub fn see_devices(&mut self, alloc: Global, devices: &[DeviceCard]) -> Result<(), AllocError>
-        requires { self.old.names.items ≡ self.old.table }
+    pub fn see_devices(&mut self, alloc: Global, devices: &[KeptDevice]) -> Result<(), AllocError>
+        requires { HaveBytes self.old.table }
         ensures table { OnOk result (self.new.table
-            ≡ first_seen self.old.table (flat_map device_nets (map device_seen devices.now))) }
-        ensures names { OnOk result (self.new.names.items ≡ self.new.table) }
+            ≡ first_seen self.old.table (flat_map device_nets devices.now)) }
+        ensures names { OnOk result (HaveBytes self.new.table) }
     {
         let mut rest = devices;
         'devices: while let [device, more @ ..] = rest {
@@ -119,11 +127,11 @@ impl Nets {
         rows: &[Vec<u32>],
         globals: &[Name],
     ) -> Result<(), AllocError>
-        requires { self.old.names.items ≡ self.old.table }
+        requires { HaveBytes self.old.table }
         ensures table { OnOk result (self.new.table
             ≡ seen_with_needs names.now (needed_of (lists rows.now) globals.now) self.old.table
             (map call_seen calls.now)) }
-        ensures names { OnOk result (self.new.names.items ≡ self.new.table) }
+        ensures names { OnOk result (HaveBytes self.new.table) }
     {
         let mut rest = calls;
         'calls: while let [call, more @ ..] = rest {
@@ -133,6 +141,19 @@ impl Nets {
             rest = more;
         }
         Ok(())
+    }
+
+    /// The names, in their order. None is copied.
+    pub fn into_names(self, alloc: Global) -> Result<Vec<Name>, AllocError>
+        requires { HaveBytes self.table }
+        ensures { IfOk result (λ names. names.items ≡ self.table) }
+    {
+        let texts = self.table.into_texts(alloc)?;
+        let mut names = Vec::with_capacity(alloc, texts.len())?;
+        'texts: for text in texts {
+            names.push(Name::from_vec(text))?;
+        }
+        Ok(names)
     }
 }
 

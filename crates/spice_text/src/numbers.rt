@@ -4,22 +4,23 @@ ghost use Rattle.std.specs.Prelude.{◌≡◌, ◌++◌, ◌<◌, ◌^◌, map, 
 ghost use Rattle.text_table.specs.Texts.{place_of};
 ghost use Rattle.call_order.specs.Order.{lists};
 ghost use Rattle.net_model.specs.Rows.{plain_device, plain_call};
-ghost use Rattle.spice_rows.specs.Seen.{device_seen, call_seen};
+ghost use Rattle.spice_rows.specs.Seen.{call_seen};
 ghost use Rattle.spice_text.specs.Table.{picked, needed_of};
 ghost use Rattle.spice_text.specs.Means.{device_row, call_row};
 
+use crate::kept::KeptDevice;
 use crate::nets::row_at;
 use net_model::{CallRow, DeviceRow};
 use net_names::Name;
-use spice_rows::{CallCard, DeviceCard};
+use spice_rows::CallCard;
 use std::alloc::{AllocError, Global};
 use text_table::TextTable;
 
-fn number(nets: &TextTable, name: &Name) -> u32
+fn number(nets: &TextTable, name: &[u8]) -> u32
     requires { length nets.now < 2 ^ 32 }
     ensures { result ≡ place_of nets.now name.now }
 {
-    nets.place(name.bytes()) as u32
+    nets.place(name) as u32
 }
 
 fn push_numbers(out: &mut Vec<u32>, nets: &TextTable, names: &[Name]) -> Result<(), AllocError>
@@ -28,7 +29,7 @@ fn push_numbers(out: &mut Vec<u32>, nets: &TextTable, names: &[Name]) -> Result<
 {
     let mut rest = names;
     'names: while let [name, more @ ..] = rest {
-        out.push(number(nets, name))?;
+        out.push(number(nets, name.bytes()))?;
         rest = more;
     }
     Ok(())
@@ -47,7 +48,7 @@ fn push_needed(
     let mut rest = row;
     'numbers: while let [j, more @ ..] = rest {
         if let Some(name) = globals.get(*j as usize) {
-            out.push(number(nets, name))?;
+            out.push(number(nets, name.bytes()))?;
         }
         rest = more;
     }
@@ -72,36 +73,34 @@ pub fn net_numbers(
     Ok(out)
 }
 
-fn device_row(alloc: Global, nets: &TextTable, d: &DeviceCard) -> Result<DeviceRow, AllocError>
+fn device_row(alloc: Global, nets: &TextTable, d: &KeptDevice) -> Result<DeviceRow, AllocError>
     requires { length nets.now < 2 ^ 32 }
-    ensures { IfOk result (λ row. plain_device row ≡ device_row nets.now (device_seen d.now)) }
+    ensures { IfOk result (λ row. plain_device row ≡ device_row nets.now d.now) }
 {
     Ok(DeviceRow {
-        class: d.class.try_clone(alloc)?,
-        length: d.length,
-        width: d.width,
-        source: number(nets, &d.source),
-        gate: number(nets, &d.gate),
-        drain: number(nets, &d.drain),
-        bulk: number(nets, &d.bulk),
+        class: Name::from_vec(d.class().to_vec(alloc)?),
+        length: d.length(),
+        width: d.width(),
+        source: number(nets, d.source()),
+        gate: number(nets, d.gate()),
+        drain: number(nets, d.drain()),
+        bulk: number(nets, d.bulk()),
     })
 }
 
-/// Devices with their nets by number.
+/// Devices with their nets by number. Each is let go as soon as its row is made.
 pub fn device_rows(
     alloc: Global,
     nets: &TextTable,
-    devices: &[DeviceCard],
+    devices: Vec<KeptDevice>,
 ) -> Result<Vec<DeviceRow>, AllocError>
     requires { length nets.now < 2 ^ 32 }
     ensures { IfOk result (λ rows. map plain_device rows.items
-        ≡ map (device_row nets.now) (map device_seen devices.now)) }
+        ≡ map (device_row nets.now) devices.items) }
 {
     let mut rows = Vec::with_capacity(alloc, devices.len())?;
-    let mut rest = devices;
-    'devices: while let [device, more @ ..] = rest {
-        rows.push(device_row(alloc, nets, device)?)?;
-        rest = more;
+    'devices: for device in devices {
+        rows.push(device_row(alloc, nets, &device)?)?;
     }
     Ok(rows)
 }
@@ -120,7 +119,7 @@ fn call_row(
         ≡ call_row names.now (needed_of (lists rows.now) globals.now) nets.now
         (call_seen call.now)) }
 {
-    let circuit = number(names, &call.circuit);
+    let circuit = number(names, call.circuit.bytes());
     let row = row_at(rows, circuit as usize);
     let nets = net_numbers(alloc, nets, &call.nets, row, globals)?;
     Ok(CallRow { circuit, nets })

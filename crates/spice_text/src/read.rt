@@ -19,15 +19,16 @@ use net_model::{Netlist, call_list_laws};
 use spice_rows::SpiceFault;
 use std::alloc::{AllocError, Global};
 
-fn netlist(alloc: Global, cards: &OrderedCards) -> Result<Netlist, AllocError>
-    requires { AreOrdered (map circuit_seen cards.now.circuits.items) cards.now.names
-        (lists cards.now.calls.items) cards.now.order.items }
-    ensures { IfOk result (λ n. IsNetlistOf (map circuit_seen cards.now.circuits.items)
-        cards.now.globals.items (plain_netlist n)) }
+fn netlist(alloc: Global, cards: OrderedCards) -> Result<Netlist, AllocError>
+    requires { AreOrdered (map circuit_seen cards.circuits.items) cards.names
+        (lists cards.calls.items) cards.order.items }
+    ensures { IfOk result (λ n. IsNetlistOf (map circuit_seen cards.circuits.items)
+        cards.globals.items (plain_netlist n)) }
 {
     let globals = each_once(alloc, &cards.globals)?;
     let rows = need_table(alloc, &cards.circuits, &cards.calls, &cards.order, &globals)?;
-    let circuits = circuit_rows(alloc, &cards.names, &rows, &globals.names, &cards.circuits)?;
+    let gathered = cards.circuits;
+    let circuits = circuit_rows(alloc, &cards.names, &rows, &globals.names, gathered)?;
     Ok(Netlist { circuits })
 }
 
@@ -45,6 +46,6 @@ pub fn read_spice(alloc: Global, bytes: &[u8]) -> Result<Netlist, SpiceFault>
     let cards = order_cards(alloc, all)?;
     order_laws();
     call_list_laws();
-    let netlist = netlist(alloc, &cards)?;
+    let netlist = netlist(alloc, cards)?;
     Ok(netlist)
 }

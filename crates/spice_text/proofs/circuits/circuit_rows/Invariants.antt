@@ -7,7 +7,4 @@ use Rattle.spice_text.specs.Means.{rows_from}
 use Rattle.spice_text.proofs.circuits.circuit_rows.Given as goal
 
 abbrev pub invariant-circuits : goal.invariant-circuits
-invariant-circuits l = map plain_circuit l.out.items ++ rows_from l.names (needed_of (lists l.rows) l.globals) (length l.out.items) (map circuit_seen l.rest) ≡ rows_from l.names (needed_of (lists l.rows) l.globals) 0 (map circuit_seen l.circuits)
-
-abbrev pub decreases-circuits : goal.decreases-circuits
-decreases-circuits l = length l.rest
+invariant-circuits l = map plain_circuit l.out.items ++ rows_from l.names (needed_of (lists l.rows) l.globals) (length l.out.items) (map circuit_seen l.c-iterator.rest.items) ≡ rows_from l.names (needed_of (lists l.rows) l.globals) 0 (map circuit_seen l.fn.circuits.items)
