@@ -14,3 +14,7 @@ by_jobs {T} is cell_of d e r s graph values same rules count each job lt =
     subst (λ x. IsSomeAnd (slice_get values job) (is (plain x) (rules_seen r) (cell_of x job))) same
     (subst (λ x. IsSomeAnd (slice_get values job) (is (plain e) (rules_seen x) (cell_of e job))) rules
     (each job (subst (λ n. job < n) (sym count) lt)))
+
+-- what holds of a layout and its rules holds of the same ones
+pub along : (P : Linked → RuleSet → Type 0) (d e : Linked) (r s : RuleSet) → d ≡ e → r ≡ s → P d r → P e s
+along P d e r s a b h = subst (λ (x : Linked). P x s) a (subst (λ (y : RuleSet). P d y) b h)

@@ -16,8 +16,7 @@ ghost use Rattle.deep_flow.specs.Bad.{told_gates};
 ghost use Rattle.deep_flow.specs.Extracted.{IsNetlistOfCells};
 
 use crate::drawn::draw;
-use crate::gates::derive_gates;
-use crate::pins::find_pins;
+use crate::pins::derive_pins;
 use cell_graph::Design;
 use deep_tables::{BadGate, Gates, Layers, Nets, Pins};
 use job_board::{Crew, Gate};
@@ -68,22 +67,21 @@ pub fn extract<R: Threads + Wait + Sync, G: Gate + Sync>(
     ensures bad { IfOk result (λ e. e.bad.items
         ≡ told_gates (rules_seen rules.now) e.gates design.now.order) }
 {
-    let gated = derive_gates(alloc, design, rules, crew)?;
-    let pins = find_pins(
+    let found = derive_pins(alloc, design, rules, crew)?;
+    let drawn = draw(
         alloc,
         design,
         rules,
-        &gated.layers,
-        &gated.nets,
-        &gated.gates,
+        &found.gated,
+        &found.pins,
+        unit_pm,
         crew,
     )?;
-    let drawn = draw(alloc, design, rules, &gated, &pins, unit_pm, crew)?;
     Ok(Extracted {
-        layers: gated.layers,
-        nets: gated.nets,
-        gates: gated.gates,
-        pins,
+        layers: found.gated.layers,
+        nets: found.gated.nets,
+        gates: found.gated.gates,
+        pins: found.pins,
         netlist: drawn.netlist,
         top: drawn.top,
         bad: drawn.bad,

@@ -5,7 +5,7 @@ ghost use Rattle.std.specs.Prelude.{◌≤◌};
 use crate::drawn::Placed::{At, Grid, Turned};
 use crate::drawn::{Drawn, Shape, stream_of};
 use crate::streams::{M0, M90, M180, M270, R0, R90, R180, R270};
-use deep_flow::derive_gates;
+use deep_flow::derive_pins;
 use deep_tables::{GateCause, GateState};
 use gds_layout::read_layout;
 use geo_base::Square;
@@ -94,10 +94,10 @@ fn all_gates<R: Threads + Wait + Sync>(
     };
     let design = &layout.design;
     design.sound();
-    let found = derive_gates(alloc, design, &rules, &Crew::new(rt, workers, &OpenGate))?;
+    let found = derive_pins(alloc, design, &rules, &Crew::new(rt, workers, &OpenGate))?;
     let mut all = Vec::new(alloc);
     for cell in design.order() {
-        for gate in found.gates.of(*cell) {
+        for gate in found.gated.gates.of(*cell) {
             all.push(Listed {
                 cell: *cell,
                 least: gate.least,

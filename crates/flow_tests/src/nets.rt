@@ -8,7 +8,7 @@ use crate::streams::{
     M0, M90, M180, M270, R0, R90, R180, R270, push_cell, push_end, push_last, push_place,
     push_rect, start,
 };
-use deep_flow::derive_nets;
+use deep_flow::derive_pins;
 use gds_layout::read_layout;
 use job_board::{Crew, OpenGate};
 use rule_text::read_rules;
@@ -46,8 +46,8 @@ fn top_nets<R: Threads + Wait + Sync>(
     };
     let design = &layout.design;
     design.sound();
-    let found = derive_nets(alloc, design, &rules, &Crew::new(rt, workers, &OpenGate))?;
-    let nets = found.nets.of(design.top());
+    let found = derive_pins(alloc, design, &rules, &Crew::new(rt, workers, &OpenGate))?;
+    let nets = found.gated.nets.of(design.top());
     Ok(Found {
         net_of: nets.net_of.to_vec(alloc)?,
         count: nets.count,

@@ -8,7 +8,6 @@ pub mod Layer
 pub mod Both
 pub mod Own
 pub mod Work
-pub mod Phase
 pub mod Reads
 pub mod Rows
 pub mod Search

@@ -1,50 +1,43 @@
 -- What the phases of devices read.
-use Rattle.std.specs.Prelude.{◌≡◌, ◌<◌, ◌^◌, length, map}
+use Rattle.std.specs.Prelude.{◌≡◌, ◌<◌, ◌^◌, ℕ, Bool, List, length, map}
 use Rattle.cell_graph.specs.Linked.{Linked, plain}
 use Rattle.gate_phase.specs.Indexes.{AreLayersOf}
+use Rattle.deep_tables.specs.Jobs.{AreFreeJobs}
 use Rattle.deep_tables.specs.Nets.{AreRightNets}
 use Rattle.deep_tables.specs.Zones.{AreZones}
-use Rattle.rule_layers.specs.Meaning.{device_rules, globals_of, wiring_of}
+use Rattle.deep_tables.specs.declared.keys.GateKey.{GateKey}
+use Rattle.rule_layers.specs.Meaning.{device_rules, wiring_of}
 use Rattle.rule_text.specs.Seen.{rules_seen}
-use Rattle.rule_text.specs.Sound.{IsSound}
 use Rattle.rule_text.specs.declared.rules.RuleSet.{RuleSet}
-use Rattle.net_phase.specs.Below.{BelowSeen, tables_seen}
-use Rattle.net_phase.specs.Elements.{AreAllElements, element_lists}
-use Rattle.net_phase.specs.Indexes.{AreIndexes}
-use Rattle.net_phase.specs.Own.{AreOwnLists, rect_lists}
+use Rattle.net_phase.specs.Below.{tables_seen}
 use Rattle.net_phase.specs.Reading.{nets_of}
+use Rattle.net_phase.specs.Wired.{with_nets}
 use Rattle.gate_phase.specs.Judged.{rule_grounds}
 use Rattle.gate_phase.specs.Terminals.{grounds_seen}
 use Rattle.gate_phase.specs.declared.work.DeviceWork.TheInside.{Inside}
 
--- the layout and the rules
+-- the layout, the rules and the jobs
 pub record WorkOf : Type 0 where
   pub design : Linked
   pub rules : RuleSet
+  pub graph : List (List ℕ)
 
 abbrev pub work_of : Inside → WorkOf
-work_of a = record { design = a.design.now; rules = a.rules.now }
+work_of a = record { design = a.wired.now.design; rules = a.wired.now.rules; graph = a.graph }
 
--- what a job reads
-abbrev pub read_by : Inside → BelowSeen
-read_by a = record {
-  design = a.design.now;
-  rules = a.rules.now;
-  own = rect_lists a.own.items;
-  nets = nets_of a.nets.items;
+-- what a phase's lists are defined by: those of transistors, or with the further devices
+abbrev pub key_of : WorkOf → Bool → GateKey
+key_of w further = record {
+  design = record { marker = record {}; value = w.design };
+  rules = record { marker = record {}; value = w.rules };
+  further = record { marker = record {}; value = further };
 }
 
 pub record IsDeviceWork (a : Inside) : Type 0 where
-  pub sound : IsSound (rules_seen a.rules.now)
-  pub few : length (device_rules (rules_seen a.rules.now)) < 2 ^ 32
-  pub zones : AreZones (plain a.design.now) (rules_seen a.rules.now) a.zones.now
-  pub layers : AreLayersOf (plain a.design.now) (rules_seen a.rules.now) a.layers
-  pub conductors : a.conductors ≡ length (wiring_of (rules_seen a.rules.now)).conductors
-  pub globals : a.globals ≡ length (globals_of (rules_seen a.rules.now))
-  pub grounds : map grounds_seen a.grounds.items ≡ rule_grounds (rules_seen a.rules.now)
-  pub elements : AreAllElements a.design.now (element_lists a.elements.items)
-  pub own : AreOwnLists a.design.now (rules_seen a.rules.now) (rect_lists a.own.items)
-  pub indexes : AreIndexes a.design.now (rules_seen a.rules.now) (rect_lists a.own.items)
-      (element_lists a.elements.items) a.indexes
-  pub nets : AreRightNets (plain a.design.now) (wiring_of (rules_seen a.rules.now))
-      (tables_seen (read_by a))
+  pub few : length (device_rules (rules_seen a.wired.now.rules)) < 2 ^ 32
+  pub zones : AreZones (plain a.wired.now.design) (rules_seen a.wired.now.rules) a.zones.now
+  pub layers : AreLayersOf (plain a.wired.now.design) (rules_seen a.wired.now.rules) a.layers
+  pub grounds : map grounds_seen a.grounds.items ≡ rule_grounds (rules_seen a.wired.now.rules)
+  pub nets : AreRightNets (plain a.wired.now.design) (wiring_of (rules_seen a.wired.now.rules))
+      (tables_seen (with_nets a.wired.now (nets_of a.nets.items)))
+  pub graph : AreFreeJobs a.wired.now.design a.graph

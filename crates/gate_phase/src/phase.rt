@@ -1,21 +1,19 @@
 //! The phase of gates: the regions of transistors' rules.
 ghost use Rattle.std.specs.Prelude.{◌≡◌, IfOk, false};
 ghost use Rattle.cell_graph.specs.Linked.{plain};
+ghost use Rattle.deep_tables.specs.Jobs.{AreFreeJobs};
 ghost use Rattle.deep_tables.specs.Layers.{AreLayers};
 ghost use Rattle.deep_tables.specs.Nets.{AreNets};
 ghost use Rattle.deep_tables.specs.Zones.{AreZones};
-ghost use Rattle.deep_tables.specs.Jobs.{AreFreeJobs};
 ghost use Rattle.rule_text.specs.Seen.{rules_seen};
-ghost use Rattle.rule_text.specs.Sound.{IsSound};
+ghost use Rattle.gate_phase.specs.Work.{key_of};
 
 use crate::work::DeviceWork;
-use cell_graph::Design;
-use deep_tables::{CellGates, GateKey, Layers, Nets, Zones, free_graph};
+use deep_tables::{CellGates, GateKey, Layers, Nets, Zones};
 use job_graph::{Graph, Phase, Reads};
-use rule_text::RuleSet;
+use net_phase::Wired;
 use std::alloc::{AllocError, Global};
 use std::marker::Model;
-use std::snapshot::Snapshot;
 
 /// The gates of transistors of each cell that the top reaches. Its jobs go through the design's
 /// order. They read the disturbed squares, the layers and the nets of all cells, so none waits for
@@ -23,49 +21,42 @@ use std::snapshot::Snapshot;
 #[derive(Drop)]
 pub struct GatePhase<'a> {
     work: DeviceWork<'a>,
-    graph: Graph,
 }
 
 impl<'a> Model for GatePhase<'a> {
-    ghost use Rattle.gate_phase.specs.Phase.{GateJobs, IsGatePhase, jobs_seen};
+    ghost use Rattle.gate_phase.specs.Work.{WorkOf};
 
-    ghost Value = { GateJobs };
+    ghost Value = { WorkOf };
 
-    ghost view = { jobs_seen };
-
-    ghost invariant = { IsGatePhase };
+    ghost view = { λ p. p.work };
 }
 
 impl<'a> GatePhase<'a> {
-    /// The phase of a layout and of its disturbed squares, layers and nets for these rules. 2^32
-    /// names, device rules, globals or placements of a cell, or more, are refused. Linear in the
-    /// placements, and in the names for each reached cell, beside the indexes of placements and of
-    /// what cells hold themselves.
+    /// The phase of what a layout's phases read, and of its disturbed squares, layers and nets.
+    /// 2^32 names, device rules or globals, or more, are refused. It costs the indexes of the
+    /// layers of device rules, and is linear in the names for each reached cell.
     pub fn new(
         alloc: Global,
-        design: &'a Design,
-        rules: &'a RuleSet,
+        wired: &'a Wired<'a>,
         zones: &'a Zones,
         layers: &'a Layers,
         nets: &'a Nets,
     ) -> Result<GatePhase<'a>, AllocError>
-        requires rules { IsSound (rules_seen rules.now) }
-        requires zones { AreZones (plain design.now) (rules_seen rules.now) zones.now }
-        requires layers { AreLayers (plain design.now) (rules_seen rules.now) layers.now }
-        requires nets { AreNets (plain design.now) (rules_seen rules.now) nets.now }
-        ensures design { IfOk result (λ p. p.design ≡ design.now) }
-        ensures rules { IfOk result (λ p. p.rules ≡ rules.now) }
-        ensures jobs { IfOk result (λ p. AreFreeJobs design.now p.graph) }
+        requires zones { AreZones (plain wired.now.design) (rules_seen wired.now.rules) zones.now }
+        requires layers { AreLayers (plain wired.now.design) (rules_seen wired.now.rules)
+            layers.now }
+        requires nets { AreNets (plain wired.now.design) (rules_seen wired.now.rules) nets.now }
+        ensures design { IfOk result (λ p. p.design ≡ wired.now.design) }
+        ensures rules { IfOk result (λ p. p.rules ≡ wired.now.rules) }
+        ensures jobs { IfOk result (λ p. AreFreeJobs wired.now.design p.graph) }
     {
-        let work = DeviceWork::new(alloc, design, rules, zones, layers, nets)?;
-        let graph = free_graph(alloc, design)?;
-        Ok(GatePhase { work, graph })
+        let work = DeviceWork::new(alloc, wired, zones, layers, nets)?;
+        Ok(GatePhase { work })
     }
 
     /// What the phase read, for the phase of further devices.
     pub fn into_work(self) -> DeviceWork<'a>
-        ensures design { result.design ≡ self.entry.design }
-        ensures rules { result.rules ≡ self.entry.rules }
+        ensures { result ≡ self.entry }
     {
         self.work
     }
@@ -76,22 +67,14 @@ impl Phase for GatePhase<'_> {
 
     ghost graph = { λ p. p.graph };
 
-    ghost key = { λ p. record {
-      design = record { marker = record {}; value = p.design };
-      rules = record { marker = record {}; value = p.rules };
-      further = record { marker = record {}; value = false };
-    } };
+    ghost key = { λ p. key_of p false };
 
     fn graph(&self) -> &Graph {
-        &self.graph
+        self.work.graph()
     }
 
     fn key(&self) -> GateKey {
-        GateKey {
-            design: Snapshot::of(self.work.design()),
-            rules: Snapshot::of(self.work.rules()),
-            further: Snapshot::of(&false),
-        }
+        self.work.key(false)
     }
 
     fn work<R: Reads<CellGates>>(
@@ -101,9 +84,7 @@ impl Phase for GatePhase<'_> {
         reads: &R,
     ) -> Result<CellGates, AllocError> {
         let _ = reads;
-        let design = self.work.design();
-        design.sound();
-        let cell = design.order()[job as usize];
+        let cell = self.work.cell_of(job);
         let gates = self.work.gates_of(alloc, cell, 0, self.work.transistors())?;
         Ok(CellGates { gates })
     }

@@ -1,44 +1,42 @@
 //! What the phases of transistors and of further devices read, made once for both.
-ghost use Rattle.std.specs.Prelude.{◌≡◌, ◌≤◌, length, IfOk};
+ghost use Rattle.std.specs.Prelude.{◌≡◌, ◌<◌, ◌≤◌, length, Bool, IfOk};
 ghost use Rattle.cell_graph.specs.Linked.{plain};
+ghost use Rattle.deep_tables.specs.Entries.{upward_cell};
+ghost use Rattle.deep_tables.specs.Jobs.{AreFreeJobs};
 ghost use Rattle.deep_tables.specs.Layers.{AreLayers};
 ghost use Rattle.deep_tables.specs.Nets.{AreNets};
 ghost use Rattle.deep_tables.specs.Zones.{AreZones};
 ghost use Rattle.flat_layout.specs.Layout.{IsReached};
 ghost use Rattle.rule_layers.specs.Meaning.{device_rules, mos_rules};
 ghost use Rattle.rule_text.specs.Seen.{rules_seen};
-ghost use Rattle.rule_text.specs.Sound.{IsSound};
 ghost use Rattle.gate_phase.specs.Judged.{GoOn};
+ghost use Rattle.gate_phase.specs.Work.{key_of};
 
 use crate::bulks::{Grounds, device_grounds};
 use crate::device::device_count;
 use crate::indexes::IndexedLayers;
 use crate::list::cell_gates;
 use cell_graph::Design;
-use deep_tables::{CellNets, Gate, Layers, Nets, Zones};
-use geo_base::Rect;
+use deep_tables::{CellNets, Gate, GateKey, Layers, Nets, Zones, free_graph};
+use job_graph::Graph;
 use list_base::small;
-use net_phase::{Below, Indexes, all_elements, find_indexes, find_wires, known_nets, own_lists};
-use net_walk::Element;
+use net_phase::{Wired, known_nets};
 use rule_text::RuleSet;
 use std::alloc::{AllocError, Global};
 use std::marker::Model;
+use std::snapshot::Snapshot;
 
-/// A layout and its disturbed squares, layers and nets for some rules, with indexes of its
-/// placements and of what its cells hold themselves.
+/// What the phases of a layout read, its disturbed squares, layers and nets, and the jobs of both
+/// phases: they go through the design's order. As they read the tables of all cells, none waits for
+/// another.
 #[derive(Drop)]
 pub struct DeviceWork<'a> {
-    design: &'a Design,
-    rules: &'a RuleSet,
+    wired: &'a Wired<'a>,
     zones: &'a Zones,
     layers: IndexedLayers<'a>,
-    conductors: u32,
-    globals: u32,
     grounds: Vec<Grounds>,
-    own: Vec<Vec<&'a [Rect]>>,
-    elements: Vec<Vec<Element>>,
-    indexes: Indexes,
     nets: Vec<Option<&'a CellNets>>,
+    graph: Graph,
 }
 
 impl<'a> Model for DeviceWork<'a> {
@@ -52,60 +50,70 @@ impl<'a> Model for DeviceWork<'a> {
 }
 
 impl<'a> DeviceWork<'a> {
-    /// What the phases read. 2^32 names, device rules, globals or placements of a cell, or more,
-    /// are refused. Linear in the placements, and in the names for each reached cell, beside the
-    /// indexes of placements and of what cells hold themselves.
+    /// What both phases read. 2^32 names, device rules or globals, or more, are refused. It costs
+    /// the indexes of the layers of device rules, and is linear in the names for each reached cell.
     pub fn new(
         alloc: Global,
-        design: &'a Design,
-        rules: &'a RuleSet,
+        wired: &'a Wired<'a>,
         zones: &'a Zones,
         layers: &'a Layers,
         nets: &'a Nets,
     ) -> Result<DeviceWork<'a>, AllocError>
-        requires rules { IsSound (rules_seen rules.now) }
-        requires zones { AreZones (plain design.now) (rules_seen rules.now) zones.now }
-        requires layers { AreLayers (plain design.now) (rules_seen rules.now) layers.now }
-        requires nets { AreNets (plain design.now) (rules_seen rules.now) nets.now }
-        ensures design { IfOk result (λ w. w.design ≡ design.now) }
-        ensures rules { IfOk result (λ w. w.rules ≡ rules.now) }
+        requires zones { AreZones (plain wired.now.design) (rules_seen wired.now.rules) zones.now }
+        requires layers { AreLayers (plain wired.now.design) (rules_seen wired.now.rules)
+            layers.now }
+        requires nets { AreNets (plain wired.now.design) (rules_seen wired.now.rules) nets.now }
+        ensures design { IfOk result (λ w. w.design ≡ wired.now.design) }
+        ensures rules { IfOk result (λ w. w.rules ≡ wired.now.rules) }
+        ensures jobs { IfOk result (λ w. AreFreeJobs wired.now.design w.graph) }
     {
+        wired.sound();
+        let design = wired.design();
+        let rules = wired.rules();
         small(rules.names.len()).ok_or(AllocError)?;
         device_count(rules)?;
-        let wires = find_wires(alloc, rules)?;
         let grounds = device_grounds(alloc, rules)?;
-        let own = own_lists(alloc, design, rules, layers)?;
-        let elements = all_elements(alloc, design)?;
-        let indexes = find_indexes(alloc, design, rules, &own, &elements)?;
         let known = known_nets(alloc, design, nets)?;
         let indexed = IndexedLayers::new(alloc, design, rules, layers)?;
+        let graph = free_graph(alloc, design)?;
         Ok(DeviceWork {
-            design,
-            rules,
+            wired,
             zones,
             layers: indexed,
-            conductors: wires.conductors,
-            globals: wires.globals,
             grounds,
-            own,
-            elements,
-            indexes,
             nets: known,
+            graph,
         })
     }
 
-    /// The layout.
-    pub fn design(&self) -> &'a Design
-        ensures { result.now ≡ self.now.design }
+    /// The jobs of either phase.
+    pub fn graph(&self) -> &Graph
+        ensures is { result.now ≡ self.now.graph }
+        ensures jobs { AreFreeJobs self.now.design self.now.graph }
     {
-        self.design
+        &self.graph
     }
 
-    /// The rules.
-    pub fn rules(&self) -> &'a RuleSet
-        ensures { result.now ≡ self.now.rules }
+    /// What the phase of transistors is made from, or that of further devices.
+    pub fn key(&self, further: bool) -> GateKey
+        ensures { result ≡ key_of self.now further }
     {
-        self.rules
+        GateKey {
+            design: Snapshot::of(self.wired.design()),
+            rules: Snapshot::of(self.wired.rules()),
+            further: Snapshot::of(&further),
+        }
+    }
+
+    /// The cell of a job.
+    pub fn cell_of(&self, job: u32) -> u32
+        requires { job < length self.now.graph }
+        ensures cell { result ≡ upward_cell self.now.design job }
+        ensures reached { IsReached (plain self.now.design) result }
+    {
+        let design = self.wired.design();
+        design.sound();
+        design.order()[job as usize]
     }
 
     /// How many device rules there are.
@@ -119,7 +127,7 @@ impl<'a> DeviceWork<'a> {
     pub fn transistors(&self) -> u32
         ensures { result ≡ length (mos_rules (rules_seen self.now.rules)) }
     {
-        self.rules.devices.len() as u32
+        self.wired.rules().devices.len() as u32
     }
 
     /// The regions of a reached cell's list for the device rules from one number up to another, by
@@ -137,20 +145,16 @@ impl<'a> DeviceWork<'a> {
         ensures { IfOk result (λ v. GoOn (plain self.now.design) (rules_seen self.now.rules) cell
             from to v.items) }
     {
-        self.design.sound();
-        let cells = Below::new(
-            self.design,
-            self.rules,
-            self.conductors,
-            &self.own,
-            &self.elements,
-            &self.indexes,
-            &self.nets,
-        );
+        let wired = self.wired;
+        wired.sound();
+        let design = wired.design();
+        let rules = wired.rules();
+        let globals = wired.wires().globals;
+        let cells = wired.below(&self.nets);
         cell_gates(
             alloc,
-            self.design,
-            self.rules,
+            design,
+            rules,
             self.zones,
             &self.layers,
             &cells,
@@ -158,7 +162,7 @@ impl<'a> DeviceWork<'a> {
             from,
             to,
             &self.grounds,
-            self.globals,
+            globals,
         )
     }
 }

@@ -6,4 +6,5 @@ pub mod Items
 pub mod Own
 pub mod Phase
 pub mod Reading
+pub mod Wired
 pub mod Wires

@@ -45,7 +45,7 @@ impl<'a, 'l> Model for Below<'a, 'l> {
 
 impl<'a, 'l> Below<'a, 'l> {
     /// A view of these, in constant time.
-    pub fn new(
+    pub(crate) fn new(
         design: &'a Design,
         rules: &'a RuleSet,
         conductors: u32,

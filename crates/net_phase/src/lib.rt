@@ -10,14 +10,15 @@ mod known;
 mod own;
 mod phase;
 mod reading;
+mod wired;
 mod wires;
 
 pub use below::Below;
 pub use elements::all_elements;
 pub use graph::below_graph;
-pub use indexes::{Indexes, find_indexes};
 pub use items::list_items;
 pub use known::known_nets;
 pub use own::own_lists;
 pub use phase::NetPhase;
+pub use wired::Wired;
 pub use wires::{Wires, find_wires};

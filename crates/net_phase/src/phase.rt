@@ -1,31 +1,22 @@
 //! The phase of nets.
 ghost use Rattle.std.specs.Prelude.{◌≡◌, IfOk};
 ghost use Rattle.cell_graph.specs.Linked.{plain};
-ghost use Rattle.deep_tables.specs.Layers.{AreLayers};
 ghost use Rattle.deep_tables.specs.Nets.{plain_nets};
 ghost use Rattle.flat_layout.specs.Nets.{AreNets, AreRightBelow};
-ghost use Rattle.rule_text.specs.Seen.{rules_seen};
-ghost use Rattle.rule_text.specs.Sound.{IsSound};
 ghost use Rattle.net_phase.specs.Below.{tables_seen, wiring_seen};
 ghost use Rattle.net_phase.specs.Graph.{AreBelowJobs};
 ghost use Rattle.net_phase.specs.Wires.{AreWires};
 
 use crate::below::Below;
-use crate::elements::all_elements;
 use crate::graph::below_graph;
-use crate::indexes::{Indexes, find_indexes};
 use crate::items::list_items;
-use crate::own::own_lists;
 use crate::reading::read_nets;
-use crate::wires::{Wires, find_wires};
-use cell_graph::Design;
-use deep_tables::{CellNets, DeepKey, Layers};
-use geo_base::Rect;
+use crate::wired::Wired;
+use crate::wires::Wires;
+use deep_tables::{CellNets, DeepKey};
 use job_graph::{Graph, Phase, Reads};
 use link_classes::joined_classes;
-use list_base::small;
-use net_walk::{Element, all_links, count_items};
-use rule_text::RuleSet;
+use net_walk::{all_links, count_items};
 use std::alloc::{AllocError, Global};
 use std::marker::Model;
 use std::snapshot::Snapshot;
@@ -34,12 +25,7 @@ use std::snapshot::Snapshot;
 /// cell comes after all cells below it.
 #[derive(Drop)]
 pub struct NetPhase<'a> {
-    design: &'a Design,
-    rules: &'a RuleSet,
-    wires: Wires,
-    own: Vec<Vec<&'a [Rect]>>,
-    elements: Vec<Vec<Element>>,
-    indexes: Indexes,
+    wired: &'a Wired<'a>,
     graph: Graph,
 }
 
@@ -54,36 +40,14 @@ impl<'a> Model for NetPhase<'a> {
 }
 
 impl<'a> NetPhase<'a> {
-    /// The phase of a layout and of its layers for these rules. 2^32 names, globals or placements
-    /// of a cell, or more, are refused. Linear in the placements, and in the names for each reached
-    /// cell, beside the graph of jobs and the indexes of rectangles and placements.
-    pub fn new(
-        alloc: Global,
-        design: &'a Design,
-        rules: &'a RuleSet,
-        layers: &'a Layers,
-    ) -> Result<NetPhase<'a>, AllocError>
-        requires rules { IsSound (rules_seen rules.now) }
-        requires layers { AreLayers (plain design.now) (rules_seen rules.now) layers.now }
-        ensures design { IfOk result (λ p. p.design ≡ design.now) }
-        ensures rules { IfOk result (λ p. p.rules ≡ rules.now) }
-        ensures jobs { IfOk result (λ p. AreBelowJobs design.now p.graph) }
+    /// The phase of what a layout's phases read. It costs the graph of jobs.
+    pub fn new(alloc: Global, wired: &'a Wired<'a>) -> Result<NetPhase<'a>, AllocError>
+        ensures design { IfOk result (λ p. p.design ≡ wired.now.design) }
+        ensures rules { IfOk result (λ p. p.rules ≡ wired.now.rules) }
+        ensures jobs { IfOk result (λ p. AreBelowJobs wired.now.design p.graph) }
     {
-        let wires = find_wires(alloc, rules)?;
-        small(rules.names.len()).ok_or(AllocError)?;
-        let own = own_lists(alloc, design, rules, layers)?;
-        let elements = all_elements(alloc, design)?;
-        let indexes = find_indexes(alloc, design, rules, &own, &elements)?;
-        let graph = below_graph(alloc, design)?;
-        Ok(NetPhase {
-            design,
-            rules,
-            wires,
-            own,
-            elements,
-            indexes,
-            graph,
-        })
+        let graph = below_graph(alloc, wired.design())?;
+        Ok(NetPhase { wired, graph })
     }
 }
 
@@ -130,8 +94,8 @@ impl Phase for NetPhase<'_> {
 
     fn key(&self) -> DeepKey {
         DeepKey {
-            design: Snapshot::of(self.design),
-            rules: Snapshot::of(self.rules),
+            design: Snapshot::of(self.wired.design()),
+            rules: Snapshot::of(self.wired.rules()),
         }
     }
 
@@ -141,20 +105,13 @@ impl Phase for NetPhase<'_> {
         job: u32,
         reads: &R,
     ) -> Result<CellNets, AllocError> {
-        let design = self.design;
+        let wired = self.wired;
+        wired.sound();
+        let design = wired.design();
         design.sound();
         let order = design.order();
         let cell = order[job as usize];
         let nets = read_nets(alloc, reads, self.graph.inputs(job), order, design.cells())?;
-        let below = Below::new(
-            design,
-            self.rules,
-            self.wires.conductors,
-            &self.own,
-            &self.elements,
-            &self.indexes,
-            &nets,
-        );
-        cell_nets(alloc, &below, &self.wires, cell)
+        cell_nets(alloc, &wired.below(&nets), wired.wires(), cell)
     }
 }

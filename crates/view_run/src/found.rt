@@ -6,7 +6,7 @@ ghost use Rattle.rule_text.specs.Sound.{IsSound};
 ghost use Rattle.view_run.specs.Found.{HasFound};
 
 use circuit_phase::circuit_cells;
-use deep_flow::{Gated, derive_gates, draw, find_circuits, find_pins};
+use deep_flow::{Gated, derive_pins, draw, find_circuits};
 use deep_tables::{BadGate, Circuits, Pins};
 use gds_layout::Layout;
 use job_board::{Crew, Gate};
@@ -35,8 +35,8 @@ pub struct Found {
     pub cells: Cells,
 }
 
-/// What is found of a layout, by 1 to 64 workers, with one answer for every number of them. A cell is
-/// worked once, but its circuit twice. An `Err` is want of memory, or 2^32 circuits or nets of a
+/// What is found of a layout, by 1 to 64 workers, with one answer for every number of them. A cell
+/// is worked once, but its circuit twice. An `Err` is want of memory, or 2^32 circuits or nets of a
 /// cell.
 pub fn find_all<R: Threads + Wait + Sync, G: Gate + Sync>(
     alloc: Global,
@@ -50,19 +50,19 @@ pub fn find_all<R: Threads + Wait + Sync, G: Gate + Sync>(
     layout.design.sound();
     let design = &layout.design;
     let unit_pm = layout.header.unit_pm;
-    let gated = derive_gates(alloc, design, rules, crew)?;
-    let (layers, nets, gates) = (&gated.layers, &gated.nets, &gated.gates);
-    let pins = find_pins(alloc, design, rules, layers, nets, gates, crew)?;
-    let drawn = draw(alloc, design, rules, &gated, &pins, unit_pm, crew)?;
-    let circuits = find_circuits(alloc, design, rules, nets, &pins, gates, unit_pm, crew)?;
+    let found = derive_pins(alloc, design, rules, crew)?;
+    let (gated, pins) = (&found.gated, &found.pins);
+    let drawn = draw(alloc, design, rules, gated, pins, unit_pm, crew)?;
+    let (nets, gates) = (&gated.nets, &gated.gates);
+    let circuits = find_circuits(alloc, design, rules, nets, pins, gates, unit_pm, crew)?;
     let cells = circuit_cells(alloc, design, gates)?;
     Ok(Found {
         netlist: drawn.netlist,
         top: drawn.top,
         bad: drawn.bad,
         cells: Cells {
-            gated,
-            pins,
+            gated: found.gated,
+            pins: found.pins,
             circuits,
             cells,
         },

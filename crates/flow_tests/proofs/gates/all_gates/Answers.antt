@@ -12,6 +12,6 @@ of-gate-items-requires g c =
     let n = c.loop-cell.cell-index in
     let long = ap (λ (o : List ℕ). length o) c.order-cell-items.ensures in
     let same : get_or c.order-cell-items.result.now n 0 ≡ slice_index d.order n = ap (λ (o : List ℕ). slice_index o n) c.order-cell-items.ensures in
-    subst (λ cell. IsSome (entry c.in_ok-found.found.gates cell)) (sym same)
+    subst (λ cell. IsSome (entry c.in_ok-found.found.gated.gates cell)) (sym same)
     (some_at (AreCellGates (plain d) (rules_seen c.in-Ok-read_rules.rules) (slice_index d.order n)) _
     (c.in_ok-found.ensures.gates (slice_index d.order n) (c.sound.ensures.order.reached n (omega (arith, long)))))

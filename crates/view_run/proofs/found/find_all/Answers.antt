@@ -4,18 +4,18 @@ use Rattle.view_run.proofs.found.find_all.Goals as goal
 
 pub find_circuits-requires-clause-own : goal.find_circuits-requires-clause-own
 find_circuits-requires-clause-own g c κs within =
-    let gated = c.in_ok-gated in
-    has_own c.args.layout.now.design (rules_seen c.args.rules.now) gated.gated.layers gated.gated.nets gated.ensures.layers gated.ensures.nets
+    let found = c.in_ok-found in
+    has_own c.args.layout.now.design (rules_seen c.args.rules.now) found.found.gated.layers found.found.gated.nets found.ensures.layers found.ensures.nets
 
 pub returns : goal.returns
 returns g c =
     let l = c.args.layout.now in
     let r = rules_seen c.args.rules.now in
-    let a = c.in_ok-gated.gated in
-    let made = c.in_ok-gated.ensures in
+    let a = c.in_ok-found.found.gated in
+    let made = c.in_ok-found.ensures in
     let drawn = c.in_ok-drawn.ensures in
-    let f : Filled = record { layers = a.layers; nets = a.nets; gates = a.gates; pins = c.in_ok-pins.pins; circuits = c.in_ok-circuits.circuits; cells = c.in_ok-cells.cells.items } in
-    let h = filled l.header.unit_pm l.design r f c.sound.ensures made.layers made.nets made.gates c.in_ok-pins.ensures c.in_ok-circuits.ensures c.in_ok-cells.ensures in
+    let f : Filled = record { layers = a.layers; nets = a.nets; gates = a.gates; pins = c.in_ok-found.found.pins; circuits = c.in_ok-circuits.circuits; cells = c.in_ok-cells.cells.items } in
+    let h = filled l.header.unit_pm l.design r f c.sound.ensures made.layers made.nets made.gates made.pins c.in_ok-circuits.ensures c.in_ok-cells.ensures in
     record {
       cells = record { tables = h.all; cells = h.cells_are };
       of_cells = drawn.netlist;

@@ -9,5 +9,5 @@ key_of d r = record { design = record { marker = record {}; value = d }; rules =
 
 pub returns : goal.returns
 returns c =
-    ap (λ d. key_of d c.of-2.result.value) c.of.ensures ∙ ap (λ r. key_of c.self.inside.design.now r) c.of-2.ensures
+    ap (λ d. key_of d c.of-2.result.value) (c.of.ensures ∙ c.design.ensures) ∙ ap (λ r. key_of c.self.inside.wired.now.design r) (c.of-2.ensures ∙ c.rules.ensures)
     ∙ ap (λ v. key_of v.design v.rules) c.self.view_is
