@@ -1,20 +1,27 @@
 -- What is kept close to a settled gate is what is flat there.
-use Rattle.std.proofs.Common.{◌≡◌, ◌↔◌, ℕ, ◌<◌, List, Option, Some, None, length, refl, sym, subst}
+use Rattle.std.proofs.Common.{◌≡◌, ◌↔◌, ℕ, ◌<◌, Bool, true, false, List, Option, Some, None, length, refl, sym, subst}
 use Rattle.geo_base.specs.declared.shapes.Rect.{Rect}
 use Rattle.geo_base.specs.declared.shapes.Square.{Square}
-use Rattle.flat_layout.specs.Gates.{Alone, Beside, Form, Geometry, InGate, IsGateOrRing, IsReadBy, IsSettled, Kind, Mos, form_of, gate_sheet}
+use Rattle.flat_layout.specs.Gates.{Alone, Beside, Form, Geometry, InGate, IsGateOrRing, IsReadBy, IsSettled, Kind, Mos, Rule, form_of, gate_sheet, geometry, ground, sheets}
 use Rattle.flat_layout.specs.Gates as flat
-use Rattle.flat_layout.specs.Parts.{Sheets}
+use Rattle.flat_layout.specs.Parts.{IsCloseTo, Sheets}
 use Rattle.flat_layout.specs.Layers.{Formula, InFlat, IsKept}
 use Rattle.flat_layout.specs.Layout.{Design}
+use Rattle.flat_layout.specs.Regions.{Wiring, formula}
+use Rattle.flat_layout.specs.declared.cause.GateCause.TheVariants.{Groups, OffGate, OffSd, NoBulk, NoLength}
 use Rattle.flat_laws.proofs.Terminals.{keep}
 use Rattle.gate_search.specs.Gather.{AreMet}
+use Rattle.gate_shapes.specs.LookLaws.{IsExactNear, IsExactOn}
 use Rattle.gate_shapes.specs.Sets.{in_set}
-use Rattle.gate_shapes.specs.Shapes.{IsShape, IsShapeAlone, IsShapeBy}
+use Rattle.gate_shapes.specs.Shapes.{IsShape, IsShapeAlone, IsShapeBy, sheets_of}
 use Rattle.gate_shapes.specs.declared.shape.GateShape.{GateShape}
+use Rattle.gate_shapes.specs.declared.shape.GateShape.TheVariants.{Good, Bad}
 use Rattle.gate_shapes.proofs.Groups.{around_self}
+use Rattle.gate_shapes.proofs.Looking.{look, shape}
 use Rattle.rule_text.specs.Rules.{Rules}
 use Rattle.gate_phase.specs.Devices.{AreKnownEnds, kind_seen}
+use Rattle.gate_phase.specs.Indexes.{LayersOf}
+use Rattle.gate_phase.specs.Kept.{HasLocals}
 use Rattle.gate_phase.specs.Shape.{IsGatePart, IsGateSheet}
 use Rattle.gate_phase.specs.declared.device.Kind as code
 use Rattle.gate_phase.specs.declared.device.Kind.TheVariants.{Transistor, Resistor, Diode}
@@ -66,3 +73,54 @@ as_form form g part x e h = subst (λ (f : Form). IsShapeBy f g part x) (sym e) 
 
 pub as_alone : (form : Form) (g : Sheets) (part : Square → Type 0) (x : GateShape) → form ≡ Alone → IsShapeAlone g part x → IsShapeBy form g part x
 as_alone form g part x e h = subst (λ (f : Form). IsShapeBy f g part x) (sym e) h
+
+-- what windows tell of a name, a set of the same rectangles tells
+pub met_close : (d : Design) (layers : LayersOf) (cell name : ℕ) (windows close set : List Rect) → windows ≡ close → ((x : Formula) → HasLocals d layers name x → AreMet (IsKept d cell x) windows set)
+    → (x : Formula) → HasLocals d layers name x → AreMet (IsKept d cell x) close set
+met_close d layers cell name windows close set e h x has = subst (λ (l : List Rect). AreMet (IsKept d cell x) l set) e (h x has)
+
+-- and of one name as of the same one
+pub met_named : (d : Design) (layers : LayersOf) (cell name other : ℕ) (close set : List Rect) → other ≡ name → ((x : Formula) → HasLocals d layers name x → AreMet (IsKept d cell x) close set)
+    → (x : Formula) → HasLocals d layers other x → AreMet (IsKept d cell x) close set
+met_named d layers cell name other close set e h x has = h x (subst (λ (n : ℕ). HasLocals d layers n x) e has)
+
+-- sets that differ only in what no one asks for judge a part alike
+unasked : (g : Sheets) (set : Square → Type 0) (part : Square → Type 0) (v : GateShape) → (g.loose → ⊥) → IsShape g part v
+    → IsShape (record { ends = g.ends; on_ends = g.on_ends; on_gate = g.on_gate; on_bulk = set; free = g.free; loose = g.loose }) part v
+unasked g set part (Good f) tight v = record {
+  source = v.source;
+  drain = v.drain;
+  form = record {
+    groups = v.form.groups;
+    wide = v.form.wide;
+    long = v.form.long;
+    some = v.form.some;
+    gate_on = v.form.gate_on;
+    ends_on = v.form.ends_on;
+    bulk_on = λ z. absurd (tight z);
+  };
+  least_source = v.least_source;
+  least_drain = v.least_drain;
+  order = v.order;
+}
+unasked g set part (Bad (Groups n)) tight v = v
+unasked g set part (Bad OffGate) tight v = v
+unasked g set part (Bad OffSd) tight v = v
+unasked g set part (Bad NoBulk) tight (e, f, k, on, at, open_, off) = absurd (tight open_)
+unasked g set part (Bad NoLength) tight (e, f, k, on, at, bulk, none) = (e, f, k, on, at, (λ z. absurd (tight z)), none)
+
+-- what is found by lists of which that of the bulk's conductor counts where it has no global
+pub look_where_loose : (d : Design) (w : Wiring) (u : Rule) (cell : ℕ) (s : Square) (part ends on_ends on_gate on_bulk : List Rect) (loose : Bool) (v : GateShape) → ((q : Square) → in_set part q ↔ InGate d (geometry w u) cell s q)
+    → IsExactNear d w u cell s ends u.sd → IsExactNear d w u cell s on_ends (formula w u.ts) → IsExactOn d w u cell s on_gate (gate_sheet u.kind (InFlat d cell (formula w u.tg)))
+    → (loose ≡ true → IsExactNear d w u cell s on_bulk (formula w u.tb)) → (loose ≡ true) ↔ (ground w u ≡ None)
+    → IsShape (sheets_of ends on_ends on_gate on_bulk loose) (in_set part) v → IsShape (sheets d w u cell) (InGate d (geometry w u) cell s) v
+look_where_loose d w u cell s part ends on_ends on_gate on_bulk true v same ends_are on_ends_are on_gate_are on_bulk_are loose_is h =
+    look d w u cell s part ends on_ends on_gate on_bulk true v
+    (record { part_is = same; ends_are = ends_are; on_ends_are = on_ends_are; on_gate_are = on_gate_are; on_bulk_are = on_bulk_are refl; loose_is = loose_is }) h
+look_where_loose d w u cell s part ends on_ends on_gate on_bulk false v same ends_are on_ends_are on_gate_are on_bulk_are loose_is h =
+    let P = in_set part in let bulk = InFlat d cell (formula w u.tb) in let g = sheets_of ends on_ends on_gate on_bulk false in
+    let near : (name : Formula) (rects : List Rect) → IsExactNear d w u cell s rects name → (q : Square) → IsCloseTo P q → in_set rects q ↔ InFlat d cell name q =
+    λ name rects exact q c. exact q (record { square = c.square; in_part = (same c.square).0 c.in_part; around = c.around }) in
+    shape P (InGate d (geometry w u) cell s) same (record { ends = g.ends; on_ends = g.on_ends; on_gate = g.on_gate; on_bulk = bulk; free = g.free; loose = g.loose }) (sheets d w u cell)
+    (near u.sd ends ends_are) (near (formula w u.ts) on_ends on_ends_are) (λ q p. on_gate_are q ((same q).0 p)) (λ q p. ((λ z. z), (λ z. z))) loose_is v
+    (unasked g bulk P v (λ e. let f : false ≡ true = e in let z : ⊥ = cc in z) h)

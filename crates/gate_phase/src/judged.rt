@@ -71,7 +71,7 @@ pub fn judged_gates<C: Cells>(
     ensures { IfOk result (λ v. AreGatesOf (IsGateOf (C.design cells.now) (C.wiring cells.now)
         (C.tables cells.now) rule.now (grounds_seen grounds) device cell) own.items v.items) }
 {
-    let mut gates = Vec::new(alloc);
+    let mut gates = Vec::with_capacity(alloc, own.len())?;
     for gate in own {
         let state = state_of(
             alloc, cells, cell, rule, grounds, globals, gate.least, gate.shape,

@@ -24,10 +24,14 @@ use net_walk::Cells;
 use rule_text::RuleSet;
 use std::alloc::{AllocError, Global};
 
-/// Adds gates behind others.
+/// Adds gates behind others. Where there are none, the list itself is taken, and nothing is copied.
 pub fn push_all(gates: &mut Vec<Gate>, more: Vec<Gate>) -> Result<(), AllocError>
     ensures { OnOk result (gates.new.items ≡ gates.old.items ++ more.items) }
 {
+    if gates.is_empty() {
+        *gates = more;
+        return Ok(());
+    }
     for gate in more {
         gates.push(gate)?;
     }

@@ -15,6 +15,7 @@ ghost use Rattle.flat_layout.specs.Layers.{Formula, IsKept};
 ghost use Rattle.rule_layers.specs.Formulas.{formulas};
 ghost use Rattle.gate_phase.specs.Devices.{IsDevice, IsKnownDevice, kind_seen};
 ghost use Rattle.gate_phase.specs.Kept.{HasLocals};
+ghost use Rattle.gate_search.specs.Gather.{AreMet};
 ghost use Rattle.gate_phase.specs.Shape.{IsGatePart, IsGateSheet, IsReadyShape};
 
 use crate::device::{Device, Kind};
@@ -22,6 +23,7 @@ use crate::indexes::IndexedLayers;
 use crate::kept::kept_in;
 use cell_graph::Design;
 use gate_shapes::{Around, GateShape, Sheets, area_shape, shape_of};
+use geo_base::Rect;
 use rect_sets::RectSet;
 use rule_text::RuleSet;
 use std::alloc::{AllocError, Global};
@@ -38,7 +40,81 @@ fn is_loose(rules: &RuleSet, conductor: u32) -> bool
     true
 }
 
-// The shape of a region between two groups, with what its gate must lie on.
+// What the cell keeps of the bulk's conductor, where that has no global: else nothing is asked of it.
+fn bulk_in(
+    alloc: Global,
+    design: &Design,
+    layers: &IndexedLayers,
+    cell: u32,
+    conductor: u32,
+    windows: &[Rect],
+    loose: bool,
+) -> Result<RectSet, AllocError>
+    requires cell { cell < length design.now.cells }
+    requires reached { IsReached (plain design.now) cell }
+    requires locals { (x : Formula) × HasLocals (plain design.now) layers.now conductor x }
+    requires windows { All (IsRectWithin (2 ^ 39)) windows.now }
+    ensures { IfOk result (λ s. loose ≡ true → (x : Formula)
+        → HasLocals (plain design.now) layers.now conductor x
+        → AreMet (IsKept (plain design.now) cell x) windows.now s) }
+{
+    if loose {
+        return kept_in(alloc, design, layers, cell, conductor, windows);
+    }
+    Ok(RectSet::empty(alloc))
+}
+
+// The shape of a region by its two groups, by what they and its gate must lie on.
+fn judged_shape(
+    alloc: Global,
+    design: &Design,
+    rules: &RuleSet,
+    layers: &IndexedLayers,
+    cell: u32,
+    device: &Device,
+    ends: u32,
+    groups: &RectSet,
+    on_ends: &RectSet,
+    on_gate: &RectSet,
+    part: &RectSet,
+    close: &RectSet,
+) -> Result<GateShape, AllocError>
+    requires ready { IsReadyShape design.now (rules_seen rules.now) layers.now cell }
+    requires device { IsKnownDevice (rules_seen rules.now) device.now }
+    requires ends { ends < length rules.now.names.items }
+    requires near { IsNearSet part.now }
+    requires windows { All (IsRectWithin (2 ^ 39)) close.now }
+    requires groups { (x : Formula) → HasLocals (plain design.now) layers.now ends x
+        → AreMet (IsKept (plain design.now) cell x) close.now groups.now }
+    requires on_ends { (x : Formula) → HasLocals (plain design.now) layers.now device.now.ts x
+        → AreMet (IsKept (plain design.now) cell x) close.now on_ends.now }
+    requires sheet { (x : Formula) → HasLocals (plain design.now) layers.now device.now.tg x
+        → IsGateSheet (kind_seen device.now.kind) (IsKept (plain design.now) cell x) close.now
+        part.now on_gate.now }
+    ensures { IfOk result (λ x. (u : Rule) (s : Square)
+        → IsDevice (formulas rules.now.names.items) device.now u
+        → device.now.ends ≡ Some ends
+        → IsGatePart (plain design.now) (geometry (wiring_of (rules_seen rules.now)) u) cell s
+        part.now close.now
+        → IsShape (sheets (plain design.now) (wiring_of (rules_seen rules.now)) u cell)
+        (InGate (plain design.now) (geometry (wiring_of (rules_seen rules.now)) u) cell s) x) }
+{
+    let _ = ends;
+    let loose = is_loose(rules, device.tb);
+    let windows = close.rects();
+    let on_bulk = bulk_in(alloc, design, layers, cell, device.tb, windows, loose)?;
+    let around = Around {
+        ends: groups,
+        on_ends,
+        on_gate,
+        on_bulk: &on_bulk,
+        loose,
+    };
+    shape_of(alloc, part, &around)
+}
+
+// The shape of a region between two groups, with what its gate must lie on. Where the groups' layer
+// is their conductor, it is looked at once.
 fn beside_shape(
     alloc: Global,
     design: &Design,
@@ -69,16 +145,16 @@ fn beside_shape(
 {
     let windows = close.rects();
     let groups = kept_in(alloc, design, layers, cell, ends, windows)?;
+    if device.ts == ends {
+        return judged_shape(
+            alloc, design, rules, layers, cell, device, ends, &groups, &groups, on_gate, part,
+            close,
+        );
+    }
     let on_ends = kept_in(alloc, design, layers, cell, device.ts, windows)?;
-    let on_bulk = kept_in(alloc, design, layers, cell, device.tb, windows)?;
-    let around = Around {
-        ends: &groups,
-        on_ends: &on_ends,
-        on_gate,
-        on_bulk: &on_bulk,
-        loose: is_loose(rules, device.tb),
-    };
-    shape_of(alloc, part, &around)
+    judged_shape(
+        alloc, design, rules, layers, cell, device, ends, &groups, &on_ends, on_gate, part, close,
+    )
 }
 
 // The shape of a region between two groups: a transistor's gate must lie on its conductor; of a
