@@ -63,7 +63,7 @@ impl<'a> PinPhase<'a> {
         let lines = text_lines(alloc, rules)?;
         let globals = global_names(alloc, rules)?;
         let known = known_nets(alloc, design, nets)?;
-        let cells = wired.below(&known);
+        let cells = (&*wired).below(&known);
         let links = find_links(alloc, &cells, design, nets, gates)?;
         let uses = find_uses(alloc, design)?;
         let graph = parent_graph(alloc, design, &uses)?;
