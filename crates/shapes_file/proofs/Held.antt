@@ -37,7 +37,7 @@ count_behind before (n ∷ names) =
 -- an output line's list of a reached cell
 pub record IsHeld (d : Linked) (r : Rules) (table : List (Option CellLayers)) (m : ℕ) (o : Output) : Type 0 where
   pub rects : List Rect
-  pub item_at : layer_of table m o.layer ≡ Some rects
+  pub there : layer_of table m o.layer ≡ Some rects
   pub local : IsLocalLayer (plain d) (formula_at r o.layer) m rects
 
 pub held : LayerAtLaw → (d : Linked) (r : Rules) (table : List (Option CellLayers)) (m k : ℕ) (o : Output) → IsSound r → AreLayers (plain d) r table → IsReached (plain d) m → slice_get r.outputs k ≡ Some o → IsHeld d r table m o
@@ -47,7 +47,7 @@ held law d r table m k o sound are reached at =
     let x = item_at (formulas r.names) o.layer (omega (arith, below, count)) in
     let h = law (plain d) r table m o.layer x.0 are reached x.1 in
     let same : x.0 ≡ formula_at r o.layer = sym (get_or_from_slice_get (formulas r.names) o.layer x.0 Empty x.1) in
-    record { rects = h.0; item_at = h.1; local = subst (λ (f : Formula). IsLocalLayer (plain d) f m h.0) same h.2 }
+    record { rects = h.0; there = h.1; local = subst (λ (f : Formula). IsLocalLayer (plain d) f m h.0) same h.2 }
 
 -- ---- what a written cell has on a layer
 
@@ -91,14 +91,14 @@ one_line : (r : Rules) (j k : ℕ) (o x : Output) → IsSound r → slice_get r.
 one_line r j k o x sound a b e =
     let first : slice_get (map (λ (y : Output). y.key) r.outputs) j ≡ Some o.key = map_to (λ (y : Output). y.key) r.outputs j x a ∙ ap (λ (key : LayerKey). Some key) e in
     let same : j ≡ k = apart_at o.key (map (λ (y : Output). y.key) r.outputs) j k sound.formed.keys first (map_to (λ (y : Output). y.key) r.outputs k o b) in
-    let item_at : slice_get r.outputs k ≡ Some x = subst (λ (n : ℕ). slice_get r.outputs n ≡ Some x) same a in
-    let f : Some x ≡ Some o = sym item_at ∙ b in cc
+    let there : slice_get r.outputs k ≡ Some x = subst (λ (n : ℕ). slice_get r.outputs n ≡ Some x) same a in
+    let f : Some x ≡ Some o = sym there ∙ b in cc
 
 pub own_is : LayerAtLaw → (d : Linked) (r : Rules) (table : List (Option CellLayers)) (ks : List ℕ) (j m k : ℕ) (o : Output) (q : Square) → IsSound r → AreLayers (plain d) r table → AreReached d ks
     → slice_get ks j ≡ Some m → slice_get r.outputs k ≡ Some o → IsOwn (design_drawn d r table ks) j o.key q ↔ IsLocal (plain d) m (formula_at r o.layer) q
 own_is law d r table ks j m k o q sound are reached at line =
     let h = held law d r table m k o sound are (reached_at d ks j m reached at) line in
-    let list : (line_of table m o).1 ≡ h.rects = ap squares_of h.item_at in (
+    let list : (line_of table m o).1 ≡ h.rects = ap squares_of h.there in (
       (λ own.
           let f = line_down d r table ks j m o.key q at own in
           let same = one_line r f.number k o f.line sound f.at line f.on_key in

@@ -52,10 +52,10 @@ ref_drafted ds top d k i p link = at (cell_at d k) refl
 
 -- the drafts refer as the placements do
 refers : (ds : List CellDraft) (d : Linked) (k : ℕ) (p : Place) → IsRefDrafted ds d k p → Refers ds k p.cell
-refers ds d k p h = record { number = h.number; ref = h.ref; has = record { cell = h.cell.draft; item_at = h.cell.draft_at; ref = h.ref_at }; names = h.is.names }
+refers ds d k p h = record { number = h.number; ref = h.ref; has = record { cell = h.cell.draft; there = h.cell.draft_at; ref = h.ref_at }; names = h.is.names }
 
 named_in : (ds : List CellDraft) (name : List ℕ) (i : ℕ) → IsNamed ds name i → i < length ds
-named_in ds name i h = slice_get_within ds i h.cell h.item_at
+named_in ds name i h = slice_get_within ds i h.cell h.there
 
 -- ---- heights
 
@@ -68,7 +68,7 @@ higher R i j m n step above below =
 pub heights : (ds : List CellDraft) (top : Option (List ℕ)) (d : Linked) → IsLink ds top d → IsHeight (plain d) (height_at d)
 heights ds top d link k n p placed =
     let s = step_of d k n p placed in
-    let above = ref_drafted ds top d k s.index s.from link s.step.item_at in
+    let above = ref_drafted ds top d k s.index s.from link s.step.there in
     let below = drafted ds top d s.from.cell link (named_in ds above.ref.cell s.from.cell above.is.names) in
     let lt = higher (Refers ds) k s.from.cell above.cell.part.height below.part.height (refers ds d k s.from above) above.cell.is.height below.is.height in
     let one : height_at d p.cell ≡ below.part.height = ap (λ (x : flat.Place). height_at d x.cell) s.is ∙ ap height_of below.part_at in
@@ -78,13 +78,13 @@ heights ds top d link k n p placed =
 -- ---- reached cells
 
 top_in : (ds : List CellDraft) (top : Option (List ℕ)) (i : ℕ) → IsTop ds top i → i < length ds
-top_in ds None i h = h.0.item_at
+top_in ds None i h = h.0.there
 top_in ds (Some name) i h = named_in ds name i h
 
 placed_in : (ds : List CellDraft) (top : Option (List ℕ)) (d : Linked) (k n : ℕ) (p : flat.Place) → IsLink ds top d → IsPlaced (plain d) k n p → p.cell < length ds
 placed_in ds top d k n p link placed =
     let s = step_of d k n p placed in
-    let h = ref_drafted ds top d k s.index s.from link s.step.item_at in
+    let h = ref_drafted ds top d k s.index s.from link s.step.there in
     let within = named_in ds h.ref.cell s.from.cell h.is.names in
     let same : p.cell ≡ s.from.cell = ap (λ (x : flat.Place). x.cell) s.is in
     omega (arith, within, same)
@@ -107,7 +107,7 @@ one_name ds top d j k link in_j in_k e = elim (cases_lt j k) [
     named i name lt f =
         let h = drafted ds top d i link lt in
         let g : name_of (cell_at d i) ≡ h.part.name = ap name_of h.part_at in
-        record { cell = h.draft; item_at = h.draft_at; named = sym h.is.name ∙ sym g ∙ f }
+        record { cell = h.draft; there = h.draft_at; named = sym h.is.name ∙ sym g ∙ f }
 
     repeats : (m n : ℕ) → m < length ds → n < length ds → name_of (cell_at d m) ≡ name_of (cell_at d n) → m < n → ⊥
     repeats m n in_m in_n f lt = link.sound.once n (record {
@@ -115,5 +115,5 @@ one_name ds top d j k link in_j in_k e = elim (cases_lt j k) [
       here = named n (name_of (cell_at d n)) in_n refl;
       earlier = m;
       before = lt;
-      item_at = named m (name_of (cell_at d n)) in_m f;
+      there = named m (name_of (cell_at d n)) in_m f;
     })

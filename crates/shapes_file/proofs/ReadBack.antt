@@ -52,8 +52,8 @@ structure_at (c ∷ cells) (x ∷ ds) (suc i) d h e = structure_at cells ds i d 
 ref_is : (ds : List CellDraft) (top : Option (List ℕ)) (d : Linked) (r : DraftRef) (p : Place) → IsLink ds top d → IsResolved ds r p → ref_of d p ≡ drafted_ref r
 ref_is ds top d r p link res =
     let n = res.names in
-    let at = item_at d.cells p.cell (let in_drafts = slice_get_within ds p.cell n.cell n.item_at in let count = link.count in omega (arith, in_drafts, count)) in
-    let part = link.each p.cell n.cell at.0 n.item_at at.1 in
+    let at = item_at d.cells p.cell (let in_drafts = slice_get_within ds p.cell n.cell n.there in let count = link.count in omega (arith, in_drafts, count)) in
+    let part = link.each p.cell n.cell at.0 n.there at.1 in
     let name : name_of (cell_at d p.cell) ≡ r.cell = ap name_of at.1 ∙ part.name ∙ n.named in
     rw (name, res.motion, res.columns, res.rows, res.column_step, res.row_step) refl
 
