@@ -65,7 +65,8 @@ fn push_part(
         return Ok(());
     }
     let part = zone.window(alloc, *below)?;
-    push_array(alloc, out, place, below, part.rects(), plane)
+    push_array(alloc, out, place, below, part.rects(), plane)?;
+    Ok(())
 }
 
 // Adds what is disturbed for a device rule in the cell of a reference, in its hull grown so far, by
