@@ -74,7 +74,7 @@ pub drawn_of : (d : Design) (w : Wiring) (s t : Tables) (l : List GateEntry) (pi
     → ((x : ℕ) → get_or marks x false ≡ (is_marked_by (is_child_marked pins drawn cells) v.items v.net_of x || (has_terminal x l || false))) → AreDrawn d t (λ c. l) pins drawn cell marks
 drawn_of d w s t l pins drawn cell v cells marks same nets are long marked = record {
   count = long ∙ sym (ap (λ (n : CellNets). n.count) same);
-  and_parts = λ x lt. ((λ h. there x (sym (marked x) ∙ get_or_from_slice_get marks x true false h)), (λ h. truth marks x (marked x ∙ back x h)));
+  each = λ x lt. ((λ h. there x (sym (marked x) ∙ get_or_from_slice_get marks x true false h)), (λ h. truth marks x (marked x ∙ back x h)));
 }
   where
     test : Item → Bool
