@@ -11,12 +11,12 @@ use Rattle.deep_flow.proofs.Jobs.{along}
 use Rattle.deep_flow.proofs.pins.connect.Goals as goal
 
 pub find_gates-requires-clause-zones : goal.find_gates-requires-clause-zones
-find_gates-requires-clause-zones g c =
+find_gates-requires-clause-zones g c κs within =
     let e = c.in_ok-wired.ensures in
     along (λ (x : Linked) (y : RuleSet). AreZones (plain x) (rules_seen y) c.args.zones) _ _ _ _ (sym e.design) (sym e.rules) c.requires.zones
 
 pub find_gates-requires-clause-layers : goal.find_gates-requires-clause-layers
-find_gates-requires-clause-layers g c =
+find_gates-requires-clause-layers g c κs within =
     let e = c.in_ok-wired.ensures in
     along (λ (x : Linked) (y : RuleSet). AreLayers (plain x) (rules_seen y) c.args.layers.now) _ _ _ _ (sym e.design) (sym e.rules) c.requires.layers
 
