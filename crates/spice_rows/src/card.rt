@@ -1,11 +1,7 @@
 //! What a card says: a device, a call, global names, or a circuit's begin or end.
 
-ghost use Rattle.std.specs.Prelude.{◌≡◌, IfOk};
-ghost use Rattle.spice_rows.specs.Seen.{device_seen};
-
 use fixed_num::Femto;
 use net_names::Name;
-use std::alloc::{AllocError, Global};
 
 /// A device as its card names it, by the terminals of a transistor: a resistor's gate is its bulk;
 /// a diode's source and drain are its anode, its gate and bulk its cathode. A diode's length is its
@@ -19,23 +15,6 @@ pub struct DeviceCard {
     pub class: Name,
     pub length: Femto,
     pub width: Femto,
-}
-
-impl DeviceCard {
-    /// The same device.
-    pub fn try_clone(&self, alloc: Global) -> Result<DeviceCard, AllocError>
-        ensures { IfOk result (λ d. device_seen d ≡ device_seen self.now) }
-    {
-        Ok(DeviceCard {
-            drain: self.drain.try_clone(alloc)?,
-            gate: self.gate.try_clone(alloc)?,
-            source: self.source.try_clone(alloc)?,
-            bulk: self.bulk.try_clone(alloc)?,
-            class: self.class.try_clone(alloc)?,
-            length: self.length,
-            width: self.width,
-        })
-    }
 }
 
 /// A call as its card names it, with the card's line.
