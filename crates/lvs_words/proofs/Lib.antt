@@ -1,3 +1,4 @@
 pub mod Numbering
 pub mod Reading
 pub mod Naming
+pub mod Apart

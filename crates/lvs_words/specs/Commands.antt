@@ -1,7 +1,6 @@
 -- What a list of words asks for.
-use Rattle.std.specs.Prelude.{ℕ, ◌^◌, ◌-◌, ◌&&◌, ◌||◌, Bool, List, [], ◌∷◌, Option, Some, None}
-use Rattle.std.specs.Prelude.{is_some, if◌then◌else◌, string_bytes, codes}
-use Rattle.std.specs.List.{list_any, list_all}
+use Rattle.std.specs.Prelude.{ℕ, ◌^◌, ◌-◌, ◌&&◌, List, [], ◌∷◌, Option, Some, None}
+use Rattle.std.specs.Prelude.{if◌then◌else◌, string_bytes, codes}
 use Rattle.std.specs.Option.{option_and_then, option_map}
 use Rattle.std.specs.Str.{bytes_eq}
 use Rattle.lvs_words.specs.declared.command.Command.{Command}
@@ -9,8 +8,8 @@ use Rattle.lvs_words.specs.declared.command.Command.TheVariants as command
 use Rattle.lvs_words.specs.declared.command.Stated.{Stated}
 use Rattle.lvs_words.specs.declared.flag.Flag.{Flag}
 use Rattle.lvs_words.specs.declared.flag.Flag.TheVariants as flag
-use Rattle.lvs_words.specs.Flags.{is_same}
-use Rattle.lvs_words.specs.Items.{Item, are_once, is_value, items, path, shared, value_of}
+use Rattle.lvs_words.specs.Fitting.{fits, workers_of}
+use Rattle.lvs_words.specs.Items.{Item, is_value, items, path, shared, value_of}
 use Rattle.lvs_words.specs.Numbers.{number_in}
 
 -- a command, its paths and its names as bytes
@@ -51,40 +50,16 @@ said_shapes (l ∷ r ∷ s ∷ []) = if is_value l && is_value r && is_value s
     then Some (record { asked = Shapes l r s; shared = shared (shapes_items l r s) }) else None
 said_shapes words = None
 
--- the flag is one of these
-abbrev pub is_among : List Flag → Flag → Bool
-is_among flags f = list_any (λ g. is_same g f) flags
-
--- a flag that may be left out
-abbrev pub is_free : Flag → Bool
-is_free f = is_same flag.Top f || is_same flag.Workers f
-
--- each option is a needed one, or a free one
-abbrev pub has_known : List Flag → List Item → Bool
-has_known needed is = list_all (λ i. is_free i.flag || is_among needed i.flag) is
-
--- all needed options are there
-abbrev pub has_needed : List Flag → List Item → Bool
-has_needed needed is = list_all (λ f. is_some (value_of f is)) needed
-
--- no option twice, none but the needed ones and the free ones, and all that are needed
-abbrev pub fits : List Flag → List Item → Bool
-fits needed is = are_once is && has_known needed is && has_needed needed is
-
--- the workers: 1 to 64, and 1 where nothing is said
-abbrev pub workers_in : Option (List ℕ) → Option ℕ
-workers_in None = Some 1
-workers_in (Some word) = number_in 1 64 word
-
-abbrev pub workers_of : List Item → Option ℕ
-workers_of is = workers_in (value_of flag.Workers is)
+-- the options that may be left out
+abbrev pub free_flags : List Flag
+free_flags = flag.Top ∷ flag.Workers ∷ []
 
 -- `extract`
 abbrev pub extract_flags : List Flag
 extract_flags = flag.Layout ∷ flag.Rules ∷ flag.Shapes ∷ flag.Netlist ∷ []
 
 abbrev pub extract_of : List Item → Option Asked
-extract_of is = if fits extract_flags is then option_and_then (λ k. Some (Extract
+extract_of is = if fits extract_flags free_flags is then option_and_then (λ k. Some (Extract
     (path flag.Layout is) (path flag.Rules is) (path flag.Shapes is) (path flag.Netlist is)
     (value_of flag.Top is) k)) (workers_of is) else None
 
@@ -94,7 +69,7 @@ run_flags = flag.Layout ∷ flag.Rules ∷ flag.Schematic ∷ flag.Shapes ∷ fl
     ∷ flag.Report ∷ []
 
 abbrev pub run_of : List Item → Option Asked
-run_of is = if fits run_flags is then option_and_then (λ k. Some (Run (path flag.Layout is)
+run_of is = if fits run_flags free_flags is then option_and_then (λ k. Some (Run (path flag.Layout is)
     (path flag.Rules is) (path flag.Schematic is) (path flag.Shapes is) (path flag.Netlist is)
     (path flag.Report is) (value_of flag.Top is) k)) (workers_of is) else None
 

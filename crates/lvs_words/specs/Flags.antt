@@ -1,4 +1,4 @@
--- The options of a command, by name.
+-- The options of the programs, by name.
 use Rattle.std.specs.Prelude.{ℕ, Bool, true, false, List, Option, Some, None, codes}
 use Rattle.std.specs.Prelude.{if◌then◌else◌}
 use Rattle.std.specs.Str.{bytes_eq}
@@ -6,7 +6,8 @@ use denote.Enum.Bare.{sameb}
 use Rattle.lvs_words.specs.contracts.flag.Flag.{the_type}
 use Rattle.lvs_words.specs.declared.flag.Flag.{Flag}
 use Rattle.lvs_words.specs.declared.flag.Flag.TheVariants.{Layout, Rules, Schematic, Shapes}
-use Rattle.lvs_words.specs.declared.flag.Flag.TheVariants.{Netlist, Report, Top, Workers}
+use Rattle.lvs_words.specs.declared.flag.Flag.TheVariants.{Netlist, Report, Database, Page}
+use Rattle.lvs_words.specs.declared.flag.Flag.TheVariants.{Top, Workers}
 
 -- the option of this name
 abbrev pub flag_of : List ℕ → Option Flag
@@ -17,6 +18,8 @@ flag_of name =
     if bytes_eq name (codes "--shapes") then Some Shapes else
     if bytes_eq name (codes "--netlist") then Some Netlist else
     if bytes_eq name (codes "--report") then Some Report else
+    if bytes_eq name (codes "--database") then Some Database else
+    if bytes_eq name (codes "--page") then Some Page else
     if bytes_eq name (codes "--top") then Some Top else
     if bytes_eq name (codes "--workers") then Some Workers else None
 
@@ -35,4 +38,6 @@ abbrev pub is_written : Flag → Bool
 is_written Shapes = true
 is_written Netlist = true
 is_written Report = true
+is_written Database = true
+is_written Page = true
 is_written flag = false

@@ -1,23 +1,17 @@
-//! Whether options are those of a command, and what they give it.
+//! Whether options are those that are asked for, and what they give.
 
-ghost use Rattle.std.specs.Prelude.{◌≡◌, IfOk, string_bytes};
+ghost use Rattle.std.specs.Prelude.{◌≡◌, ◌≤◌, IfOk, IfSome, string_bytes};
 ghost use Rattle.std.specs.List.{list_all};
-ghost use Rattle.lvs_words.specs.Commands.{fits, has_known, has_needed, is_among, is_free};
-ghost use Rattle.lvs_words.specs.Commands.{workers_of};
-ghost use Rattle.lvs_words.specs.Items.{AreValues, path, value_of};
+ghost use Rattle.std.specs.Option.{option_map};
+ghost use Rattle.lvs_words.specs.Fitting.{fits, has_known, has_needed, is_among, workers_of};
+ghost use Rattle.lvs_words.specs.Items.{AreValues, path, shared, value_of};
 ghost use Rattle.lvs_words.specs.Seen.{seen_all};
 
 use crate::flag::Flag;
-use crate::items::{Item, are_once, value_of};
+use crate::items::{Item, are_once, shared, value_of};
 use crate::numbers::number_in;
 use net_names::Name;
 use std::alloc::{AllocError, Global};
-
-fn is_free(flag: Flag) -> bool
-    ensures { result ≡ is_free flag }
-{
-    Flag::Top.is_same(flag) || Flag::Workers.is_same(flag)
-}
 
 fn is_among(flags: &[Flag], flag: Flag) -> bool
     ensures { result ≡ is_among flags.now flag }
@@ -33,12 +27,12 @@ fn is_among(flags: &[Flag], flag: Flag) -> bool
 }
 
 // Whether each option is a needed one, or a free one.
-fn has_known(needed: &[Flag], items: &[Item<'_>]) -> bool
-    ensures { result ≡ has_known needed.now (seen_all items.now) }
+fn has_known(needed: &[Flag], free: &[Flag], items: &[Item<'_>]) -> bool
+    ensures { result ≡ has_known needed.now free.now (seen_all items.now) }
 {
     let mut rest = items;
     'items: while let [item, more @ ..] = rest {
-        if !is_free(item.flag) && !is_among(needed, item.flag) {
+        if !is_among(free, item.flag) && !is_among(needed, item.flag) {
             return false;
         }
         rest = more;
@@ -62,19 +56,49 @@ fn has_needed(needed: &[Flag], items: &[Item<'_>]) -> bool
 
 /// Whether no option stands twice, none but the needed ones and the free ones stand there, and all
 /// that are needed do.
-pub fn fits(needed: &[Flag], items: &[Item<'_>]) -> bool
-    ensures { result ≡ fits needed.now (seen_all items.now) }
+pub fn fits(needed: &[Flag], free: &[Flag], items: &[Item<'_>]) -> bool
+    ensures { result ≡ fits needed.now free.now (seen_all items.now) }
 {
-    are_once(items) && has_known(needed, items) && has_needed(needed, items)
+    are_once(items) && has_known(needed, free, items) && has_needed(needed, items)
 }
 
-/// The path that the option gives.
+/// The path that two options give, where at least one of them writes it.
+pub fn shared_path(alloc: Global, items: &[Item<'_>]) -> Result<Option<String>, AllocError>
+    ensures { IfOk result (λ p. option_map string_bytes p ≡ shared (seen_all items.now)) }
+{
+    match shared(items) {
+        Some(path) => {
+            let path = String::from_str(alloc, path)?;
+            Ok(Some(path))
+        }
+        None => Ok(None),
+    }
+}
+
+/// The path that the option gives; an empty one where it isn't there.
 pub fn path(alloc: Global, items: &[Item<'_>], flag: Flag) -> Result<String, AllocError>
     ensures { IfOk result (λ p. string_bytes p ≡ path flag (seen_all items.now)) }
 {
     match value_of(items, flag) {
         Some(value) => String::from_str(alloc, value),
         None => String::from_str(alloc, ""),
+    }
+}
+
+/// The path that the option gives, where it is there.
+pub fn given_path(
+    alloc: Global,
+    items: &[Item<'_>],
+    flag: Flag,
+) -> Result<Option<String>, AllocError>
+    ensures { IfOk result (λ p. option_map string_bytes p ≡ value_of flag (seen_all items.now)) }
+{
+    match value_of(items, flag) {
+        Some(value) => {
+            let path = String::from_str(alloc, value)?;
+            Ok(Some(path))
+        }
+        None => Ok(None),
     }
 }
 
@@ -91,7 +115,8 @@ pub fn top(alloc: Global, items: &[Item<'_>]) -> Result<Option<Name>, AllocError
 
 /// How many workers the options ask for: 1 to 64.
 pub fn workers(items: &[Item<'_>]) -> Option<usize>
-    ensures { result ≡ workers_of (seen_all items.now) }
+    ensures count { result ≡ workers_of (seen_all items.now) }
+    ensures within { IfSome result (λ n. (1 ≤ n) × (n ≤ 64)) }
 {
     match value_of(items, Flag::Workers) {
         Some(word) => {

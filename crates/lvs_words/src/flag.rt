@@ -1,9 +1,9 @@
-//! The options of the commands, by their names.
+//! The options of the programs, by their names.
 
 ghost use Rattle.std.specs.Prelude.{◌≡◌};
 ghost use Rattle.lvs_words.specs.Flags.{flag_of, is_path, is_same, is_written};
 
-/// An option of a command.
+/// An option of a command, or of the program that writes databases.
 #[derive(Clone, Copy, Debug, PartialEq, Eq)]
 pub enum Flag {
     Layout,
@@ -12,6 +12,8 @@ pub enum Flag {
     Shapes,
     Netlist,
     Report,
+    Database,
+    Page,
     Top,
     Workers,
 }
@@ -32,6 +34,10 @@ pub fn flag_of(name: &str) -> Option<Flag>
         Some(Flag::Netlist)
     } else if name == "--report" {
         Some(Flag::Report)
+    } else if name == "--database" {
+        Some(Flag::Database)
+    } else if name == "--page" {
+        Some(Flag::Page)
     } else if name == "--top" {
         Some(Flag::Top)
     } else if name == "--workers" {
@@ -60,6 +66,9 @@ impl Flag {
     pub fn is_written(self) -> bool
         ensures { result ≡ is_written self }
     {
-        matches!(self, Flag::Shapes | Flag::Netlist | Flag::Report)
+        matches!(
+            self,
+            Flag::Shapes | Flag::Netlist | Flag::Report | Flag::Database | Flag::Page
+        )
     }
 }

@@ -10,7 +10,8 @@ const DIGITS: usize = 20;
 /// above `high`.
 pub fn number_in(low: u64, high: u64, word: &str) -> Option<u64>
     ensures number { result ≡ number_in low high word.now }
-    ensures within { IfSome result (λ n. n ≤ high) }
+    ensures low { IfSome result (λ n. low ≤ n) }
+    ensures high { IfSome result (λ n. n ≤ high) }
 {
     if word.len() > DIGITS || !are_digits(word) {
         return None;

@@ -1,31 +1,20 @@
 //! What a list of words states.
 
 ghost use Rattle.std.specs.Prelude.{◌≡◌, map, IfOk, IsErrOf, None, Some, string_bytes};
-ghost use Rattle.std.specs.Option.{option_map};
 ghost use Rattle.lvs_words.specs.Commands.{asked, asked_of, extract_of, run_of, said, said_extract};
 ghost use Rattle.lvs_words.specs.Commands.{said_make, said_of, said_run, said_shapes};
-ghost use Rattle.lvs_words.specs.Items.{AreValues, shared};
+ghost use Rattle.lvs_words.specs.Items.{AreValues};
 ghost use Rattle.lvs_words.specs.Seen.{seen_all};
 
 use crate::command::{Command, Stated, WordFault};
-use crate::fitting::{fits, path, top, workers};
+use crate::fitting::{fits, path, shared_path, top, workers};
 use crate::flag::Flag;
-use crate::items::{Item, is_value, read_items, shared};
+use crate::items::{Item, is_value, read_items};
 use crate::numbers::number_in;
-use std::alloc::{AllocError, Global};
+use std::alloc::Global;
 
-// The path that the options name twice.
-fn shared_path(alloc: Global, items: &[Item<'_>]) -> Result<Option<String>, AllocError>
-    ensures { IfOk result (λ p. option_map string_bytes p ≡ shared (seen_all items.now)) }
-{
-    match shared(items) {
-        Some(path) => {
-            let path = String::from_str(alloc, path)?;
-            Ok(Some(path))
-        }
-        None => Ok(None),
-    }
-}
+// The options that may be left out.
+const FREE: [Flag; 2] = [Flag::Top, Flag::Workers];
 
 // `shapes LAYOUT RULES SHAPES`, behind its first word.
 fn shapes(alloc: Global, words: &[String]) -> Result<Stated, WordFault>
@@ -70,7 +59,7 @@ fn extract_of(alloc: Global, items: &[Item<'_>]) -> Result<Command, WordFault>
     ensures refused { IsErrOf result WordFault.Refused → extract_of (seen_all items.now) ≡ None }
 {
     let needed = [Flag::Layout, Flag::Rules, Flag::Shapes, Flag::Netlist];
-    if !fits(&needed, items) {
+    if !fits(&needed, &FREE, items) {
         return Err(WordFault::Refused);
     }
     let Some(workers) = workers(items) else {
@@ -100,7 +89,7 @@ fn run_of(alloc: Global, items: &[Item<'_>]) -> Result<Command, WordFault>
         Flag::Netlist,
         Flag::Report,
     ];
-    if !fits(&needed, items) {
+    if !fits(&needed, &FREE, items) {
         return Err(WordFault::Refused);
     }
     let Some(workers) = workers(items) else {

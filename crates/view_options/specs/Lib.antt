@@ -1,4 +1,1 @@
-pub mod Flags
-pub mod Items
-pub mod Seen
 pub mod Stated

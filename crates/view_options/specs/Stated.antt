@@ -1,14 +1,13 @@
 -- What a list of words asks for.
-use Rattle.std.specs.Prelude.{ℕ, ◌&&◌, Bool, List, [], ◌∷◌, Option, Some, None, is_some}
+use Rattle.std.specs.Prelude.{ℕ, List, [], ◌∷◌, Option, Some, None}
 use Rattle.std.specs.Prelude.{if◌then◌else◌, string_bytes}
-use Rattle.std.specs.List.{list_all}
 use Rattle.std.specs.Option.{option_and_then, option_map}
-use Rattle.lvs_words.specs.Commands.{workers_in}
-use Rattle.view_options.specs.declared.flag.Flag.{Flag}
-use Rattle.view_options.specs.declared.flag.Flag.TheVariants.{Layout, Rules, Schematic, Database}
-use Rattle.view_options.specs.declared.flag.Flag.TheVariants.{Page, Top, Workers}
+use Rattle.lvs_words.specs.declared.flag.Flag.{Flag}
+use Rattle.lvs_words.specs.declared.flag.Flag.TheVariants.{Layout, Rules, Schematic, Database}
+use Rattle.lvs_words.specs.declared.flag.Flag.TheVariants.{Page, Top, Workers}
+use Rattle.lvs_words.specs.Fitting.{fits, workers_of}
+use Rattle.lvs_words.specs.Items.{Item, items, path, shared, value_of}
 use Rattle.view_options.specs.declared.stated.Task.{Task}
-use Rattle.view_options.specs.Items.{Item, are_once, items, path, shared, value_of}
 
 -- the paths, of which the page's may be left out, and the name of the top as bytes, the number of
 -- workers, and the path of a file that is written and named twice
@@ -35,23 +34,16 @@ asked_of t = record {
 }
 
 -- the options that can't be left out
-abbrev pub needed : List Flag
-needed = Layout ∷ Rules ∷ Schematic ∷ Database ∷ []
+abbrev pub needed_flags : List Flag
+needed_flags = Layout ∷ Rules ∷ Schematic ∷ Database ∷ []
 
-abbrev pub has_needed : List Flag → List Item → Bool
-has_needed flags is = list_all (λ f. is_some (value_of f is)) flags
-
--- no option twice, and all that are needed
-abbrev pub fits : List Item → Bool
-fits is = are_once is && has_needed needed is
-
--- the workers: 1 to 64, and 1 where nothing is said
-abbrev pub workers_of : List Item → Option ℕ
-workers_of is = workers_in (value_of Workers is)
+-- the options that may be left out
+abbrev pub free_flags : List Flag
+free_flags = Page ∷ Top ∷ Workers ∷ []
 
 -- what these options ask for
 abbrev pub asked_by : List Item → Option Asked
-asked_by is = if fits is then option_and_then (λ k. Some (record {
+asked_by is = if fits needed_flags free_flags is then option_and_then (λ k. Some (record {
   layout = path Layout is;
   rules = path Rules is;
   schematic = path Schematic is;

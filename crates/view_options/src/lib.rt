@@ -1,10 +1,6 @@
 //! The words after the program's name: which files a database is made of, and where it is written.
 #![tactic(auto)]
 
-mod fitting;
-mod flag;
-mod items;
-mod numbers;
 mod stated;
 
 pub use stated::{Task, read_task};

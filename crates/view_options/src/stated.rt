@@ -1,17 +1,15 @@
 //! What a list of words states.
 
 ghost use Rattle.std.specs.Prelude.{◌≡◌, ◌≤◌, map, IfOk, IsErrOf, None, Some, string_bytes};
-ghost use Rattle.std.specs.Option.{option_map};
-ghost use Rattle.view_options.specs.Items.{AreValues, shared};
-ghost use Rattle.view_options.specs.Seen.{seen_all};
+ghost use Rattle.lvs_words.specs.Items.{AreValues};
+ghost use Rattle.lvs_words.specs.Seen.{seen_all};
 ghost use Rattle.view_options.specs.Stated.{asked, asked_by, asked_of};
 
-use crate::fitting::{fits, page, path, top, workers};
-use crate::flag::Flag;
-use crate::items::{Item, read_items, shared};
-use lvs_words::WordFault;
+use lvs_words::{
+    Flag, Item, WordFault, fits, given_path, path, read_items, shared_path, top, workers,
+};
 use net_names::Name;
-use std::alloc::{AllocError, Global};
+use std::alloc::Global;
 
 /// The files that the words name, the name of the layout's top, the number of workers, and the path
 /// of the database, where it is an input too.
@@ -27,19 +25,6 @@ pub struct Task {
     pub shared: Option<String>,
 }
 
-// The path that the options name twice.
-fn shared_path(alloc: Global, items: &[Item<'_>]) -> Result<Option<String>, AllocError>
-    ensures { IfOk result (λ p. option_map string_bytes p ≡ shared (seen_all items.now)) }
-{
-    match shared(items) {
-        Some(path) => {
-            let path = String::from_str(alloc, path)?;
-            Ok(Some(path))
-        }
-        None => Ok(None),
-    }
-}
-
 // What these options ask for.
 fn task_of(alloc: Global, items: &[Item<'_>]) -> Result<Task, WordFault>
     requires { AreValues (seen_all items.now) }
@@ -47,7 +32,9 @@ fn task_of(alloc: Global, items: &[Item<'_>]) -> Result<Task, WordFault>
     ensures refused { IsErrOf result WordFault.Refused → asked_by (seen_all items.now) ≡ None }
     ensures workers { IfOk result (λ t. (1 ≤ t.workers) × (t.workers ≤ 64)) }
 {
-    if !fits(items) {
+    let needed = [Flag::Layout, Flag::Rules, Flag::Schematic, Flag::Database];
+    let free = [Flag::Page, Flag::Top, Flag::Workers];
+    if !fits(&needed, &free, items) {
         return Err(WordFault::Refused);
     }
     let Some(workers) = workers(items) else {
@@ -58,7 +45,7 @@ fn task_of(alloc: Global, items: &[Item<'_>]) -> Result<Task, WordFault>
         rules: path(alloc, items, Flag::Rules)?,
         schematic: path(alloc, items, Flag::Schematic)?,
         database: path(alloc, items, Flag::Database)?,
-        page: page(alloc, items)?,
+        page: given_path(alloc, items, Flag::Page)?,
         top: top(alloc, items)?,
         workers,
         shared: shared_path(alloc, items)?,

@@ -1,5 +1,5 @@
 use Rattle.std.proofs.Common.{◌≡◌, length}
-use Rattle.lvs_words.specs.Commands.{has_needed}
+use Rattle.lvs_words.specs.Fitting.{has_needed}
 use Rattle.lvs_words.specs.Seen.{seen_all}
 use Rattle.lvs_words.proofs.fitting.has_needed.Given as goal
 

@@ -1,5 +1,5 @@
 use Rattle.std.proofs.Common.{◌≡◌, length}
-use Rattle.lvs_words.specs.Commands.{is_among}
+use Rattle.lvs_words.specs.Fitting.{is_among}
 use Rattle.lvs_words.proofs.fitting.is_among.Given as goal
 
 abbrev pub invariant-flags : goal.invariant-flags
