@@ -3,6 +3,7 @@
 ghost use Rattle.std.specs.Prelude.{◌<◌};
 
 use crate::conditions::{are_callees_first, is_alignable, read};
+use job_board::{Crew, OpenGate};
 use net_align::align;
 use net_model::Circuit;
 use std::alloc::{AllocError, Global};
@@ -54,7 +55,8 @@ fn every_second(rt: HostRuntime) -> Result<(), Fail> {
     assert!(rt; are_callees_first(&layout));
     assert!(rt; layout.circuits.len() == 1000);
     let same = Vec::new(alloc);
-    let Some(found) = align(alloc, &layout, 999, &schematic, &same)? else {
+    let crew = Crew::new(&rt, 2, &OpenGate);
+    let Some(found) = align(alloc, &layout, 999, &schematic, &same, &crew)? else {
         return Err(Fail::from("no partner"));
     };
     let (left, right) = (&found.left.circuits, &found.right.circuits);

@@ -32,7 +32,12 @@ fn circuits(alloc: Global, count: u32) -> Result<String, AllocError> {
 }
 
 // How many transistors a schematic's top has, aligned with the only circuit of a layout.
-fn top_devices(alloc: Global, layout: &str, schematic: &str) -> Result<usize, Fail> {
+fn top_devices<R: Threads>(
+    rt: &R,
+    alloc: Global,
+    layout: &str,
+    schematic: &str,
+) -> Result<usize, Fail> {
     let layout = read(alloc, layout)?;
     let schematic = read(alloc, schematic)?;
     if !is_alignable(&layout) || !is_alignable(&schematic) || !are_callees_first(&layout) {
@@ -42,7 +47,8 @@ fn top_devices(alloc: Global, layout: &str, schematic: &str) -> Result<usize, Fa
         return Ok(0);
     }
     let same = Vec::new(alloc);
-    let Some(found) = align(alloc, &layout, 0, &schematic, &same)? else {
+    let crew = Crew::new(rt, 1, &OpenGate);
+    let Some(found) = align(alloc, &layout, 0, &schematic, &same, &crew)? else {
         return Ok(0);
     };
     let [top] = found.right.circuits.as_slice() else {
@@ -86,7 +92,7 @@ fn many_circuits(rt: HostRuntime) -> Result<(), Fail> {
     let schematic = circuits(alloc, CIRCUITS)?;
     let layout = ".subckt top s\nm1 s s s s n l=1u w=1u\n.ends\n";
     assert_eq!(rt;
-        top_devices(alloc, layout, schematic.as_str())?,
+        top_devices(&rt, alloc, layout, schematic.as_str())?,
         65_537,
         "transistors"
     );

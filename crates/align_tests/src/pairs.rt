@@ -1,11 +1,15 @@
 //! Small layouts and schematics, and the two sides that they become when aligned.
 
+ghost use Rattle.std.specs.Prelude.{◌≤◌};
+
 use crate::conditions::{are_apart, are_callees_first, is_alignable, read};
+use job_board::{Crew, OpenGate};
 use net_align::align;
 use net_names::Name;
 use spice_text::{fits_cards, write_spice};
 use std::alloc::Global;
 use std::test::Fail;
+use std::thread::Threads;
 
 // A layout with the number of its top, a schematic, a line `same_circuits` or none, and the two
 // aligned sides; none where the top has no partner.
@@ -165,8 +169,10 @@ fn name(alloc: Global, text: &str) -> Result<Name, Fail> {
     }
 }
 
-// Whether a case comes out as it is wanted.
-fn comes_out(alloc: Global, case: &Case) -> Result<bool, Fail> {
+// Whether a case comes out as it is wanted, with so many workers.
+fn comes_out<R: Threads>(rt: &R, alloc: Global, case: &Case, workers: usize) -> Result<bool, Fail>
+    requires { (1 ≤ workers) × (workers ≤ 64) }
+{
     let layout = read(alloc, case.layout)?;
     let schematic = read(alloc, case.schematic)?;
     let mut same = Vec::new(alloc);
@@ -179,7 +185,8 @@ fn comes_out(alloc: Global, case: &Case) -> Result<bool, Fail> {
     if !are_apart(&same) || case.top as usize >= layout.circuits.len() {
         return Ok(false);
     }
-    let found = align(alloc, &layout, case.top, &schematic, &same)?;
+    let crew = Crew::new(rt, workers, &OpenGate);
+    let found = align(alloc, &layout, case.top, &schematic, &same, &crew)?;
     match (found, case.want) {
         (None, None) => Ok(true),
         (Some(pair), Some((left, right))) => {
@@ -198,7 +205,8 @@ fn comes_out(alloc: Global, case: &Case) -> Result<bool, Fail> {
 fn aligned_pairs(rt: HostRuntime) -> Result<(), Fail> {
     let alloc = rt.alloc();
     for case in &CASES {
-        assert!(rt; comes_out(alloc, case)?, "{}", case.layout);
+        assert!(rt; comes_out(&rt, alloc, case, 1)?, "{}", case.layout);
+        assert!(rt; comes_out(&rt, alloc, case, 2)?, "{}", case.layout);
     }
     Ok(())
 }

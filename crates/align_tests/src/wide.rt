@@ -1,10 +1,12 @@
 //! A top with 100,000 calls of one transistor, aligned with the same circuit without calls.
 
 use crate::conditions::{are_callees_first, is_alignable, read};
+use job_board::{Crew, OpenGate};
 use net_align::align;
 use spice_text::{fits_cards, write_spice};
 use std::alloc::{AllocError, Global};
 use std::test::Fail;
+use std::thread::Threads;
 
 const COUNT: u32 = 100_000;
 
@@ -31,7 +33,13 @@ fn flat(alloc: Global) -> Result<String, AllocError> {
 }
 
 // Both sides become the flat circuit.
-fn both_flat(alloc: Global, layout: &str, top: u32, schematic: &str) -> Result<bool, Fail> {
+fn both_flat<R: Threads>(
+    rt: &R,
+    alloc: Global,
+    layout: &str,
+    top: u32,
+    schematic: &str,
+) -> Result<bool, Fail> {
     let layout = read(alloc, layout)?;
     let schematic = read(alloc, schematic)?;
     if !is_alignable(&layout) || !is_alignable(&schematic) || !are_callees_first(&layout) {
@@ -41,7 +49,8 @@ fn both_flat(alloc: Global, layout: &str, top: u32, schematic: &str) -> Result<b
         return Ok(false);
     }
     let same = Vec::new(alloc);
-    let Some(found) = align(alloc, &layout, top, &schematic, &same)? else {
+    let crew = Crew::new(rt, 2, &OpenGate);
+    let Some(found) = align(alloc, &layout, top, &schematic, &same, &crew)? else {
         return Ok(false);
     };
     if !fits_cards(&found.left) || !fits_cards(&found.right) {
@@ -57,7 +66,7 @@ fn calls_against_flat(rt: HostRuntime) -> Result<(), Fail> {
     let alloc = rt.alloc();
     let called = called(alloc)?;
     let flat = flat(alloc)?;
-    assert!(rt; both_flat(alloc, called.as_str(), 1, flat.as_str())?);
-    assert!(rt; both_flat(alloc, flat.as_str(), 0, called.as_str())?);
+    assert!(rt; both_flat(&rt, alloc, called.as_str(), 1, flat.as_str())?);
+    assert!(rt; both_flat(&rt, alloc, flat.as_str(), 0, called.as_str())?);
     Ok(())
 }

@@ -77,7 +77,7 @@ pub fn compare<R: Threads + Wait + Sync, G: Gate + Sync>(
         (plain_netlist c.left) (plain_netlist c.right)
         (asked_of (plain_netlist c.left) limit same_pins) (map plain_answer c.answers))) }
 {
-    let Some(aligned) = align(alloc, layout, top, schematic, same)? else {
+    let Some(aligned) = align(alloc, layout, top, schematic, same, crew)? else {
         return Ok(None);
     };
     let answers = answer_pairs(alloc, &aligned, limit, same_pins, crew)?;

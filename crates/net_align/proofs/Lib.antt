@@ -18,3 +18,4 @@ pub mod Walking
 pub mod BelowTop
 pub mod PairKept
 pub mod PairMade
+pub mod Placed

@@ -8,15 +8,19 @@ use Rattle.plain_netlist.specs.Lists.{AreApart}
 use Rattle.plain_netlist.specs.Netlist.{Netlist}
 use Rattle.plain_netlist.proofs.Faults.{sides}
 use Rattle.plain_netlist.proofs.Listing.{apart_at, at_apart}
-use Rattle.align_laws.specs.Partners.{AreNamesApart, AreLinesApart, ArePairs, IsAlignedPair, IsPair, IsPartner}
+use Rattle.align_laws.specs.Partners.{AreNamesApart, AreLinesApart, ArePairs, IsPair, IsPartner}
 use Rattle.align_laws.proofs.Sides.{one_left}
-use Rattle.net_align.specs.Compared.{AreTables, is_compared}
+use Rattle.net_align.specs.Compared.{AreAligned, AreTables, is_compared}
 use Rattle.net_align.specs.Found.{ArePartners}
 use Rattle.net_align.specs.Paired.{ArePairsBelow, compared_partner}
 use Rattle.net_align.specs.Side.{AreMarkedCircuits, IsSide}
 use Rattle.net_align.specs.Walked.{AreReached, IsMarked}
 use Rattle.net_align.specs.declared.below.Below.{Below}
+use Rattle.net_model.specs.Rows.{plain_netlist}
+use Rattle.net_model.specs.declared.netlist.Netlist.{Netlist as Model}
+use Rattle.net_align.proofs.PairKept.{partner_there}
 use Rattle.net_align.proofs.Partnered.{at_or}
+use Rattle.net_align.proofs.Placed.{low_in}
 use Rattle.net_align.proofs.Sides.{mark_low}
 
 item : (xs : List ℕ) (i : ℕ) → i < length xs → (x : ℕ) × (slice_get xs i ≡ Some x)
@@ -61,7 +65,35 @@ pub record PairsFound (layout schematic : Netlist) (top right_top : ℕ) (same :
   pub right_reached : AreReached schematic right_top r.reached.items
   pub pairs : ArePairsBelow of (is_compared top l r) (length of) lefts rights
 
-module _ (layout schematic : Netlist) (top right_top : ℕ) (same : List (List ℕ × List ℕ)) (of : List (Option ℕ)) (l r : Below) (lefts rights : List ℕ) (h : PairsFound layout schematic top right_top same of l r lefts rights) where
+-- the partner of the top, as the table has it
+pub has_top_partner : (layout : Model) (schematic : Netlist) {top : ℕ} {same : List (List ℕ × List ℕ)} {of : List (Option ℕ)} {o : Option ℕ}
+    {right_top : ℕ} → ArePartners (plain_netlist layout) schematic top same of → top < length layout.circuits.items
+    → o ≡ get_or of top o → o ≡ Some right_top → IsPartner (plain_netlist layout) schematic top same top right_top
+has_top_partner layout schematic are low read e = has_partner _ _ _ _ _ are _ _ (low_in layout _ low) read _ e
+
+pub pairs_found : (layout schematic : Model) {top right_top : ℕ} {same : List (List ℕ × List ℕ)} {items of : List (Option ℕ)}
+    {o : Option ℕ} {l r : Below} {left_items lefts right_items rights : List ℕ}
+    → ArePartners (plain_netlist layout) (plain_netlist schematic) top same items → top < length layout.circuits.items
+    → o ≡ get_or items top o → o ≡ Some right_top
+    → AreTables (plain_netlist layout) l → AreReached (plain_netlist layout) top l.reached.items
+    → AreTables (plain_netlist schematic) r → AreReached (plain_netlist schematic) right_top r.reached.items
+    → of ≡ items → ArePairsBelow of (is_compared top l r) (length of) left_items right_items
+    → lefts ≡ left_items → rights ≡ right_items
+    → PairsFound (plain_netlist layout) (plain_netlist schematic) top right_top same of l r lefts rights
+pairs_found layout schematic {top = top} {same = same} {of = of} {l = l} {r = r} {left_items = left_items} {rights = rights}
+    are low read e left left_reached right right_reached z pairs el er = record {
+      partners = subst (λ (x : List (Option ℕ)). ArePartners (plain_netlist layout) (plain_netlist schematic) top same x) (sym z) are;
+      tops = has_top_partner layout (plain_netlist schematic) are low read e;
+      left = left;
+      right = right;
+      left_reached = left_reached;
+      right_reached = right_reached;
+      pairs = subst (λ (x : List ℕ). ArePairsBelow of (is_compared top l r) (length of) x rights) (sym el)
+          (subst (λ (x : List ℕ). ArePairsBelow of (is_compared top l r) (length of) left_items x) (sym er) pairs);
+    }
+
+module _ {layout schematic : Netlist} {top right_top : ℕ} {same : List (List ℕ × List ℕ)} {of : List (Option ℕ)} {l r : Below}
+    {lefts rights : List ℕ} (h : PairsFound layout schematic top right_top same of l r lefts rights) where
   abbrev lr : List Bool
   lr = l.reached.items
 
@@ -161,13 +193,13 @@ module _ (layout schematic : Netlist) (top right_top : ℕ) (same : List (List �
         let e = one_left layout schematic top same names right_names lines x.0 y.0 b (found i x.0 b x.1 at).0 (found j y.0 b y.1 bt).0 in
         apart_at x.0 lefts i j lefts_apart x.1 (y.1 ∙ ap Some (sym e)))
 
-  module _ (right_low : (a b : ℕ) → IsPartner layout schematic top same a b → b < length schematic.circuits) (left right : Netlist) (left_side : IsSide layout lefts left) (right_side : IsSide schematic rights right) where
+  module _ {left right : Netlist} (left_side : IsSide layout lefts left) (right_side : IsSide schematic rights right) where
     pair_at : (a b : ℕ) → Pair a b → (k : ℕ) × (slice_get lefts k ≡ Some a) × (slice_get rights k ≡ Some b)
     pair_at a b p =
         let e = (h.partners.each a b).1 p.partner in
         let l = slice_get_within of a (Some b) e in
         let low : a < length layout.circuits = let k = h.partners.long in omega (arith, l, k) in
-        let t = passes a b low (right_low a b p.partner) p in
+        let t = passes a b low (partner_there layout schematic top same a b p.partner) p in
         h.pairs.all a b l (ap (compared_partner test a) (at_or of a (Some b) None e) ∙ some_compared test a b t)
 
     are_pairs : ArePairs layout schematic top same right_top left_side.by right_side.by
@@ -196,12 +228,17 @@ module _ (layout schematic : Netlist) (top right_top : ℕ) (same : List (List �
           ];
     }
 
-    pub aligned_pair : IsAlignedPair layout schematic top right_top same left right left_side.by right_side.by
-    aligned_pair = record {
-      partner = h.tops;
-      pairs = are_pairs;
-      left_aligned = left_side.aligned;
-      right_aligned = right_side.aligned;
-      left_only = left_side.only;
-      right_only = right_side.only;
+    pub are_aligned : AreAligned layout schematic top same left right
+    are_aligned = record {
+      right_top = right_top;
+      left_by = left_side.by;
+      right_by = right_side.by;
+      are = record {
+        partner = h.tops;
+        pairs = are_pairs;
+        left_aligned = left_side.aligned;
+        right_aligned = right_side.aligned;
+        left_only = left_side.only;
+        right_only = right_side.only;
+      };
     }

@@ -8,12 +8,14 @@ ghost use Rattle.net_align.specs.Paired.{ArePairsBelow};
 ghost use Rattle.net_model.specs.Rows.{plain_netlist};
 ghost use Rattle.plain_netlist.specs.Lists.{AreApart};
 
-use crate::below::{Below, side_of, walk_below};
+use crate::below::{Below, both_sides, walk_both};
 use crate::pairs::{Marks, Pairs, find_pairs};
 use crate::partners::find_partners;
+use job_board::Crew;
 use net_model::Netlist;
 use net_names::Name;
 use std::alloc::{AllocError, Global};
+use std::thread::Threads;
 
 /// A layout and a schematic made comparable: circuits of one position are a pair, and on the left
 /// each stands behind those that it calls.
@@ -32,14 +34,16 @@ pub struct Aligned {
 /// a partner is flattened into its callers, and so are nets and pins dropped that hold nothing. The
 /// nets of call k of a flattened circuit get `Xk/` before their names, k counted from 1.
 ///
-/// Linear in what is made, where a flattened circuit counts once for each call, and in the names.
-/// Err only where memory is refused or a list is longer than numbers of 32 bits count.
-pub fn align(
+/// Linear in what is made, where a flattened circuit counts once for each call, and in the names;
+/// a crew of two or more works the two sides at once, with the same answer. Err only where memory
+/// is refused or a list is longer than numbers of 32 bits count.
+pub fn align<R: Threads, G>(
     alloc: Global,
     layout: &Netlist,
     top: u32,
     schematic: &Netlist,
     same: &[(Name, Name)],
+    crew: &Crew<R, G>,
 ) -> Result<Option<Aligned>, AllocError>
     requires layout { IsAlignable (plain_netlist layout.now) }
     requires schematic { IsAlignable (plain_netlist schematic.now) }
@@ -63,11 +67,12 @@ pub fn align(
     let Some(right_top) = of[top as usize] else {
         return Ok(None);
     };
-    let left = walk_below(alloc, layout, top as usize)?;
-    let right = walk_below(alloc, schematic, right_top)?;
-    let pairs = pairs_below(alloc, &of, top as usize, &left, &right)?;
-    let left = side_of(alloc, layout, &left, &pairs.lefts)?;
-    let right = side_of(alloc, schematic, &right, &pairs.rights)?;
+    let below = walk_both(alloc, layout, top as usize, schematic, right_top, crew)?;
+    let (left, right) = (&below.0, &below.1);
+    let pairs = pairs_below(alloc, &of, top as usize, left, right)?;
+    let (lefts, rights) = (&pairs.lefts, &pairs.rights);
+    let sides = both_sides(alloc, layout, left, lefts, schematic, right, rights, crew)?;
+    let (left, right) = sides;
     Ok(Some(Aligned { left, right }))
 }
 

@@ -1,12 +1,16 @@
 //! A layout's shapes file, its netlist and the netlist's text.
 
-ghost use Rattle.std.specs.Prelude.{ℕ, List, Option, IfOk};
+ghost use Rattle.std.specs.Prelude.{◌≡◌, ℕ, List, Option, IfOk};
 ghost use Rattle.cell_graph.specs.Linked.{plain};
 ghost use Rattle.deep_tables.specs.Layers.{AreLayers};
 ghost use Rattle.gds_layout.specs.Layouts.{IsRead};
-ghost use Rattle.netlist_file.specs.File.{AreFiles, HasNetlist};
+ghost use Rattle.net_model.specs.Rows.{plain_netlist};
+ghost use Rattle.netlist_file.specs.File.{AreFiles, HasNetlist, IsExtracted};
 ghost use Rattle.rule_text.specs.Seen.{rules_seen};
 ghost use Rattle.rule_text.specs.Sound.{IsSound};
+ghost use Rattle.shapes_file.specs.File.{IsDrawing};
+ghost use Rattle.spice_text.specs.Cards.{FitCards};
+ghost use Rattle.spice_text.specs.Written.{IsWritten};
 
 use deep_flow::extract;
 use deep_tables::{BadGate, Layers};
@@ -46,31 +50,79 @@ pub enum Files {
     Wide(u32),
 }
 
-// A layout's layers and its netlist.
+// What is extracted from a layout, but for the texts.
+#[derive(Drop)]
+struct Cells {
+    layers: Layers,
+    netlist: Netlist,
+    top: u32,
+    bad: Vec<BadGate>,
+}
+
+// A layout's layers, its netlist and its bad gates; all else that was found for its cells is let
+// go.
 fn extracted<R: Threads + Wait + Sync, G: Gate + Sync>(
     alloc: Global,
     layout: &Layout,
     rules: &RuleSet,
     crew: &Crew<R, G>,
-) -> Result<(Layers, NetlistFile), AllocError>
+) -> Result<Cells, AllocError>
     requires rules { IsSound (rules_seen rules.now) }
-    ensures layers { IfOk result (λ v. AreLayers (plain layout.now.design) (rules_seen rules.now)
-        v.0) }
-    ensures file { IfOk result (λ v. HasNetlist layout.now (rules_seen rules.now) v.1) }
+    ensures { IfOk result (IsExtracted layout.now (rules_seen rules.now)) }
 {
     layout.design.sound();
     let unit_pm = layout.header.unit_pm;
     let found = extract(alloc, &layout.design, rules, unit_pm, crew)?;
     extracted_text();
-    let text = write_spice(alloc, &found.netlist)?;
     spelled(&found.netlist);
-    let file = NetlistFile {
+    Ok(Cells {
+        layers: found.layers,
         netlist: found.netlist,
         top: found.top,
         bad: found.bad,
+    })
+}
+
+// The netlist file of what was extracted, with this text.
+fn file_of(cells: Cells, text: Vec<u8>) -> NetlistFile
+    ensures { result ≡ record {
+      netlist = cells.netlist;
+      top = cells.top;
+      bad = cells.bad;
+      text = text;
+    } }
+{
+    NetlistFile {
+        netlist: cells.netlist,
+        top: cells.top,
+        bad: cells.bad,
         text,
-    };
-    Ok((found.layers, file))
+    }
+}
+
+// A layout's shapes file and its netlist's text, side by side.
+fn both_texts<R: Threads, G>(
+    alloc: Global,
+    layout: &Layout,
+    rules: &RuleSet,
+    layers: &Layers,
+    netlist: &Netlist,
+    crew: &Crew<R, G>,
+) -> (Result<Drawing, AllocError>, Result<Vec<u8>, AllocError>)
+    requires read { (bytes : List ℕ) × (top : Option (List ℕ)) × IsRead bytes top layout.now }
+    requires rules { IsSound (rules_seen rules.now) }
+    requires layers { AreLayers (plain layout.now.design) (rules_seen rules.now) layers.now }
+    requires fits { FitCards (plain_netlist netlist.now) }
+    ensures drawing { IfOk result.0 (IsDrawing layout.now (rules_seen rules.now)) }
+    ensures text { IfOk result.1 (λ text. IsWritten (plain_netlist netlist.now) text.items) }
+{
+    let drawing = move || -> Result<Drawing, AllocError>
+        requires { ((bytes : List ℕ) × (top : Option (List ℕ)) × IsRead bytes top layout.now)
+            × IsSound (rules_seen rules.now)
+            × AreLayers (plain layout.now.design) (rules_seen rules.now) layers.now }
+        ensures { IfOk result (IsDrawing layout.entry.now (rules_seen rules.entry.now)) }
+    { shapes_of_layers(alloc, layout, rules, layers) };
+    crew.both(drawing, || write_spice(alloc, netlist))
 }
 
 /// The netlist of a layout that was read. It has a circuit for the top and for each reached cell
@@ -88,13 +140,15 @@ pub fn extract_netlist<R: Threads + Wait + Sync, G: Gate + Sync>(
     requires rules { IsSound (rules_seen rules.now) }
     ensures { IfOk result (HasNetlist layout.now (rules_seen rules.now)) }
 {
-    let (_, file) = extracted(alloc, layout, rules, crew)?;
-    Ok(file)
+    let cells = extracted(alloc, layout, rules, crew)?;
+    let text = write_spice(alloc, &cells.netlist)?;
+    Ok(file_of(cells, text))
 }
 
 /// The shapes file and the netlist of a layout that was read, as `extract_netlist` has it; or the
-/// first cell for which there is no shapes file. An `Err` is want of memory, or 2^32 circuits or
-/// nets of a cell. Cost: that of `extract_netlist`, and the bytes written.
+/// first cell for which there is no shapes file. Two workers or more write both texts at once. An
+/// `Err` is want of memory, or 2^32 circuits or nets of a cell. Cost: that of `extract_netlist`,
+/// and the bytes written.
 pub fn extract_files<R: Threads + Wait + Sync, G: Gate + Sync>(
     alloc: Global,
     layout: &Layout,
@@ -105,9 +159,14 @@ pub fn extract_files<R: Threads + Wait + Sync, G: Gate + Sync>(
     requires rules { IsSound (rules_seen rules.now) }
     ensures { IfOk result (AreFiles layout.now (rules_seen rules.now)) }
 {
-    let (layers, file) = extracted(alloc, layout, rules, crew)?;
-    match shapes_of_layers(alloc, layout, rules, &layers)? {
-        Drawing::Whole(shapes) => Ok(Files::Whole(Extraction { shapes, file })),
+    let cells = extracted(alloc, layout, rules, crew)?;
+    let (layers, netlist) = (&cells.layers, &cells.netlist);
+    let (drawing, text) = both_texts(alloc, layout, rules, layers, netlist, crew);
+    match drawing? {
+        Drawing::Whole(shapes) => {
+            let file = file_of(cells, text?);
+            Ok(Files::Whole(Extraction { shapes, file }))
+        }
         Drawing::Wide(cell) => Ok(Files::Wide(cell)),
     }
 }

@@ -1,14 +1,14 @@
-use Rattle.std.proofs.Common.{◌≡◌, ◌<◌, ℕ, List, Option, Some, None, length, get_or, refl, arith}
-use Rattle.std.proofs.lemmas.List.{length-map}
+use Rattle.std.proofs.Common.{◌≡◌, ◌<◌, ℕ, List, Option, Some, None, length, get_or, refl}
 use Rattle.std.proofs.lemmas.Option.{none-some}
 use Rattle.plain_netlist.specs.Netlist.{Netlist}
-use Rattle.net_model.specs.Rows.{plain_circuit, plain_netlist}
+use Rattle.net_model.specs.Rows.{plain_netlist}
 use Rattle.net_align.specs.Compared.{IsTopPartner}
 use Rattle.net_align.specs.Found.{ArePartners}
 use Rattle.net_align.specs.Names.{left_names, right_names}
 use Rattle.net_align.proofs.BelowTop.{calls_there}
 use Rattle.net_align.proofs.PairKept.{is_once, names_once}
 use Rattle.net_align.proofs.PairMade.{has_partner, partner_has}
+use Rattle.net_align.proofs.Placed.{low_in}
 use Rattle.net_align.proofs.pair.partner_of_top.Goals as goal
 
 pub find_partners-requires-clause-circuits : goal.find_partners-requires-clause-circuits
@@ -36,7 +36,4 @@ top_partner layout schematic top same of are low (Some b) read =
 
 pub returns : goal.returns
 returns c =
-    let long = length-map c.args.layout.now.circuits.items plain_circuit in
-    let t = c.requires.top in
-    top_partner (plain_netlist c.args.layout.now) (plain_netlist c.args.schematic.now) c.args.top c.args.same.now c.in_ok-of.of.items c.in_ok-of.ensures
-    (omega (arith, long, t)) c.index.result.now c.index.ensures
+    top_partner _ _ _ _ _ c.in_ok-of.ensures (low_in c.args.layout.now c.args.top c.requires.top) _ c.index.ensures
