@@ -5,6 +5,7 @@ pub mod Itemizing
 pub mod Knowing
 pub mod Layering
 pub mod Listing
+pub mod Marks
 pub mod Reaching
 pub mod Results
 pub mod Righting

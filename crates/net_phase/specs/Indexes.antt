@@ -10,6 +10,7 @@ use Rattle.flat_layout.specs.Regions.{formula}
 use Rattle.rule_layers.specs.Meaning.{wiring_of}
 use Rattle.rule_text.specs.Rules.{Rules}
 use Rattle.net_walk.specs.declared.cells.Element.{Element}
+use Rattle.net_phase.specs.Bare.{AreAllBare, mark_lists}
 use Rattle.net_phase.specs.declared.indexes.Indexes.{Indexes}
 
 abbrev pub index_lists : List (Vec (List Rect)) → List (List (List Rect))
@@ -41,9 +42,10 @@ abbrev pub spans_of : ℕ → Linked → List Element → List Rect
 spans_of n d elements = map (span_of n d) elements
 
 -- the indexes are of the own rectangles, by cell and conductor, and of what bounds the placements
--- for what the conductors reach
+-- for what the conductors reach; marked cells hold nothing of a conductor
 pub record AreIndexes (d : Linked) (r : Rules) (rects : List (List (List Rect)))
     (elements : List (List Element)) (x : Indexes) : Type 0 where
   pub own : index_lists x.own.items ≡ rects
   pub spans : x.spans.items ≡ map (spans_of x.reach d) elements
   pub reach : IsNetReach r x.reach
+  pub bare : AreAllBare d rects (mark_lists x.bare.items)

@@ -1,3 +1,4 @@
+pub mod Bare
 pub mod Below
 pub mod Elements
 pub mod Graph

@@ -9,6 +9,7 @@ ghost use Rattle.net_phase.specs.Indexes.{AreIndexes, index_lists};
 ghost use Rattle.net_phase.specs.Own.{own_at, rect_lists};
 ghost use Rattle.net_phase.specs.Reading.{nets_of, now_of};
 
+use crate::bare::is_marked;
 use crate::indexes::{Indexes, bound_at};
 use crate::items::first_net;
 use cell_graph::Design;
@@ -157,6 +158,10 @@ impl Cells for Below<'_, '_> {
 
     fn own(&self, cell: u32, conductor: u32) -> &[Rect] {
         rects_at(self.own, cell, conductor)
+    }
+
+    fn is_bare(&self, cell: u32, conductor: u32) -> bool {
+        is_marked(&self.indexes.bare, cell, conductor)
     }
 
     fn own_near(

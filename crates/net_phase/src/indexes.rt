@@ -10,6 +10,7 @@ ghost use Rattle.net_phase.specs.Indexes.{AreIndexes, IsNetReach, bound_by, boun
 ghost use Rattle.net_phase.specs.Indexes.{index_lists, span_of, spans_of};
 ghost use Rattle.net_phase.specs.Own.{rect_lists, rects_of};
 
+use crate::bare::all_bare;
 use cell_context::grown;
 use cell_graph::Design;
 use deep_tables::index_of;
@@ -28,6 +29,8 @@ pub struct Indexes {
     pub spans: Vec<TileIndex>,
     /// How far outside a cell's hull a net's squares may lie.
     pub reach: u32,
+    /// For each conductor, which cells hold nothing of it, nor does any cell below them.
+    pub bare: Vec<Vec<bool>>,
 }
 
 // The greatest reach of a conductor.
@@ -164,8 +167,7 @@ fn own_indexes(alloc: Global, own: &[Vec<&[Rect]>]) -> Result<Vec<Vec<TileIndex>
 }
 
 /// The indexes of a layout's cells for some rules: O(n log n) for n rectangles and placements, and
-/// linear in the rules. 2^32 or more of a
-/// list are refused.
+/// at most linear in the references for each name. 2^32 or more of a list are refused.
 pub fn find_indexes(
     alloc: Global,
     design: &Design,
@@ -179,7 +181,14 @@ pub fn find_indexes(
         (element_lists elements.now)) }
 {
     let reach = net_reach(alloc, rules)?;
+    let conductors = small(rules.names.len()).ok_or(AllocError)?;
+    let bare = all_bare(alloc, design, own, conductors)?;
     let own = own_indexes(alloc, own)?;
     let spans = span_indexes(alloc, design, elements, reach)?;
-    Ok(Indexes { own, spans, reach })
+    Ok(Indexes {
+        own,
+        spans,
+        reach,
+        bare,
+    })
 }

@@ -1,6 +1,7 @@
 //! The nets of each cell.
 #![tactic(auto)]
 
+mod bare;
 mod below;
 mod elements;
 mod graph;

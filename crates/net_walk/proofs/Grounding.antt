@@ -18,6 +18,7 @@ use Rattle.net_link_laws.specs.Found.{IsOnGlobal, Stands}
 use Rattle.net_link_laws.specs.Places.{owned_before, nets_before, places_of}
 use Rattle.plain_netlist.proofs.Members.{listed}
 use Rattle.net_walk.proofs.Spanning.{linked_cut}
+use Rattle.net_walk.proofs.Walking.{owned_step}
 use Rattle.net_walk.specs.Globals.{AddsToGlobals, IsAny, IsByFirst, IsByLine, IsByLines, IsGlobalPair, IsGroundedBy, IsOfFirst, IsOfPlacement, IsOfPlacements, globals_at}
 use Rattle.net_walk.specs.Pairs.{first_of}
 use Rattle.net_walk.specs.declared.globals.Grounded.{Grounded}
@@ -89,6 +90,13 @@ module _ (d : Design) (w : Wiring) (t : Tables) (cell : ℕ) where
 
   stands_once : (i j : ℕ) (a : Item) → Stands d w t cell i a → Stands d w t cell j a → i ≡ j
   stands_once i j a h g = one_place (items_of d w t cell) i j a (apart_items d w t cell) h g
+
+  -- items of rectangles, and of globals, where there is room for all
+  pub owned_room : (c n : ℕ) → c < length w.conductors → length (items_of d w t cell) ≤ n → owned_before t cell c + length (t.own cell c) ≤ n
+  owned_room c n lt room = let long = items_long d w t cell in let h = owned_step t cell c (length w.conductors) lt in omega (arith, long, h, room)
+
+  pub global_room : (g n : ℕ) → g < length w.globals → length (items_of d w t cell) ≤ n → globals_at d w t cell + g < n
+  global_room g n lt room = let long = items_long d w t cell in omega (arith, long, lt, room)
 
   -- rectangles of a line's conductor
 
@@ -176,8 +184,17 @@ module _ (d : Design) (w : Wiring) (t : Tables) (cell : ℕ) where
         let g = items_long d w t p.cell in
         omega (arith, e, f, g)
 
-    pub base_fits : length w.globals ≤ length (t.nets p.cell).net_of
-    base_fits = let e = base_long in omega (arith, e)
+    -- in the list that was read
+    pub base_fits : (net_of : List ℕ) (n : ℕ) → net_of ≡ (t.nets p.cell).net_of → n ≡ length w.globals → n ≤ length net_of
+    base_fits net_of n is e = let long = base_long in let f = ap (λ (l : List ℕ). length l) is in omega (arith, e, f, long)
+
+    pub base_read : (net_of : List ℕ) (n g : ℕ) → net_of ≡ (t.nets p.cell).net_of → n ≡ length w.globals
+        → get_or net_of ((length net_of - n) + g) 0 ≡ get_or (t.nets p.cell).net_of (globals_at d w t p.cell + g) 0
+    base_read net_of n g is e =
+        let long = base_long in
+        let f = ap (λ (l : List ℕ). length l) is in
+        let base : length net_of - n ≡ globals_at d w t p.cell = omega (arith, e, f, long) in
+        ap (λ (l : List ℕ). get_or l ((length net_of - n) + g) 0) is ∙ ap (λ i. get_or (t.nets p.cell).net_of (i + g) 0) base
 
     -- the net of a global there
     global_net : (g : ℕ) → g < length w.globals → IsOf (t.nets p.cell) (get_or (t.nets p.cell).net_of (globals_at d w t p.cell + g) 0) (globals_at d w t p.cell + g) (Global g)
@@ -194,9 +211,6 @@ module _ (d : Design) (w : Wiring) (t : Tables) (cell : ℕ) where
 
     pub net_within : (g : ℕ) → g < length w.globals → get_or (t.nets p.cell).net_of (globals_at d w t p.cell + g) 0 < (t.nets p.cell).count
     net_within g lt = let is = global_net g lt in nets.below (globals_at d w t p.cell + g) (get_or (t.nets p.cell).net_of (globals_at d w t p.cell + g) 0) is.numbered
-
-    pub base_is : (base : ℕ) → base ≡ length (t.nets p.cell).net_of - length w.globals → base ≡ globals_at d w t p.cell
-    base_is base e = let f = base_long in omega (arith, e, f)
 
     child_stands : (x : ℕ) → x < (t.nets p.cell).count → Stands d w t cell (first_of d w t cell k + x) (Child k x)
     child_stands x lt =

@@ -219,8 +219,11 @@ module _ (d : Design) (w : Wiring) (t : Tables) (cell : ℕ) (nets : AreNets d w
   abbrev net_of : List ℕ
   net_of = (t.nets cell).net_of
 
-  pub nets_below : (i : ℕ) → i < length net_of → get_or net_of i 0 < (t.nets cell).count
+  nets_below : (i : ℕ) → i < length net_of → get_or net_of i 0 < (t.nets cell).count
   nets_below i lt = nets.below i (get_or net_of i 0) (slice_get-get_or net_of i 0 lt)
+
+  pub read_below : (read : List ℕ) → read ≡ net_of → (i : ℕ) → i < length read → get_or read i 0 < (t.nets cell).count
+  read_below read is i lt = rw is (nets_below i (subst (λ (l : List ℕ). i < length l) is lt))
 
   module _ (c : ℕ) (known : c < length w.conductors) where
     own_some : AreNearOwn t → (x : ℕ) → IsNumberedAt net_of (owned_before t cell c) (length (t.own cell c)) x → HoldsSome d t cell c (λ k. k < 0) x

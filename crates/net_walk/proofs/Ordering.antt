@@ -1,5 +1,5 @@
 -- Pairs of placements in another order, each once.
-use Rattle.std.proofs.Common.{◌≡◌, inl, inr, ℕ, zero, suc, ◌+◌, ◌<◌, List, [], ◌∷◌, ◌++◌, Some, slice_get, get_or, length, pos, take, sym, ◌∙◌, ap, subst, arith}
+use Rattle.std.proofs.Common.{◌≡◌, inl, inr, ℕ, zero, suc, ◌+◌, ◌<◌, List, [], ◌∷◌, ◌++◌, Some, slice_get, get_or, length, take, sym, ◌∙◌, ap, subst, arith}
 use Rattle.std.specs.Prelude.{Contains}
 use Rattle.std.specs.List.Sorted.{IsPermutation}
 use Rattle.std.proofs.Math.Seq.{take-length}
@@ -116,7 +116,7 @@ added_once R pairs new h g = record {
 }
 
 abbrev pub no_lying : Lying
-no_lying = record { cell = 0; other_cell = 0; turn = 0; dx = pos 0; dy = pos 0; one = 0; other = 0 }
+no_lying = record { way = 0; one = 0; other = 0 }
 
 pub linked_by : (ls : List Link) (k : ℕ) (l : Link) (i j : ℕ) → slice_get ls k ≡ Some l → IsOf l i j → IsLinked ls i j
 linked_by [] k l i j at is = cc

@@ -15,9 +15,10 @@ use Rattle.geo_base.specs.declared.motion.Motion.{Motion}
 use Rattle.geo_base.specs.declared.motion.Turn.TheVariants.{R0}
 use Rattle.geo_base.specs.declared.shapes.Rect.{Rect}
 use Rattle.geo_base.specs.declared.shapes.Square.{Square}
-use Rattle.net_link_laws.proofs.Held.{no_square, own_held, own_holds, child_held_at, child_holds, square_below, one_net}
+use Rattle.net_link_laws.proofs.Held.{under_placed, no_square, own_held, own_holds, child_held_at, child_holds, square_below, one_net}
 use Rattle.net_link_laws.proofs.Standing.{own_place, child_place, items_long, nets_under, owned_under}
 use Rattle.net_link_laws.specs.Collected.{IsOver, AreCollected, IsInNet}
+use Rattle.net_link_laws.specs.Laws.{AreNetsUnder}
 use Rattle.net_link_laws.specs.Places.{owned_before, nets_before, places_of}
 use Rattle.net_link_laws.specs.declared.piece.NetPiece.{NetPiece}
 use Rattle.net_walk.proofs.Adding.{added_none, added_both}
@@ -273,3 +274,38 @@ near_close m h =
 
 pub near_at : (es : List Element) (k : ℕ) → AreClose es → k < length es → IsNearMotion (get_or es k no_element).motion
 near_at es k h lt = near_close (get_or es k no_element).motion (close_at es k h lt)
+
+-- what is known of a placement whose element was read
+pub record IsElement (d : Design) (w : Wiring) (t : Tables) (cell : ℕ) (es : List Element) (k : ℕ) : Type 0 where
+  pub inside : k < length es
+  pub known : k < length (places_of d cell)
+  pub there : slice_get (places_of d cell) k ≡ Some (place_of (get_or es k no_element))
+  pub placed : IsPlaced d cell k (place_of (get_or es k no_element))
+  pub under : AreNetsUnder d w t (get_or es k no_element).cell
+  pub nets : AreNets d w t (get_or es k no_element).cell (t.nets (get_or es k no_element).cell)
+
+pub element_of : (d : Design) (w : Wiring) (t : Tables) (cell : ℕ) (es : List Element) (k : ℕ) → AreNetsUnder d w t cell → map place_of es ≡ places_of d cell → k < length es → IsElement d w t cell es k
+element_of d w t cell es k nets all lt =
+    let p : Place = place_of (get_or es k no_element) in
+    let there : slice_get (places_of d cell) k ≡ Some p = element_at es (places_of d cell) k all lt in
+    let placed : IsPlaced d cell k p = placed_at d cell k p there in
+    let under : AreNetsUnder d w t p.cell = under_placed d w t cell k p placed nets in
+    record { inside = lt; known = slice_get_within (places_of d cell) k p there; there = there; placed = placed; under = under; nets = under p.cell ([], refl) }
+
+-- and of one that a window finds
+pub near_element : (d : Design) (w : Wiring) (t : Tables) (cell : ℕ) (window : Rect) (read near : List ℕ) (es : List Element) (i : ℕ) → AreNetsUnder d w t cell → read ≡ near
+    → ArePlacesNear d t cell window near → map place_of es ≡ places_of d cell → i < length read → IsElement d w t cell es (get_or read i 0)
+near_element d w t cell window read near es i nets is are all lt =
+    let known = (subst (ArePlacesNear d t cell window) (sym is) are).inside i lt in
+    element_of d w t cell es (get_or read i 0) nets all (subst (λ n. get_or read i 0 < n) (sym (as_long es (places_of d cell) all)) known)
+
+-- the places of own rectangles lie in the list that was read
+pub own_read : (d : Design) (w : Wiring) (t : Tables) (cell c : ℕ) (net_of : List ℕ) → AreNetsUnder d w t cell → c < length w.conductors → net_of ≡ (t.nets cell).net_of
+    → owned_before t cell c + length (t.own cell c) ≤ length net_of
+own_read d w t cell c net_of nets known is = rw is (own_fits d w t cell (nets cell ([], refl)) c known)
+
+pub next_fits : (t : Tables) (cell k n m : ℕ) (own : List Rect) (at : ℕ) → m ≡ n → k < m → own ≡ t.own cell k → at ≡ owned_before t cell k → owned_before t cell n ≤ 4294967295 → at + length own ≤ 4294967295
+next_fits t cell k n m own at is lt owns here room =
+    let h = owned_step t cell k n (omega (arith, is, lt)) in
+    let long = ap (λ (l : List Rect). length l) owns in
+    omega (arith, h, long, here, room)

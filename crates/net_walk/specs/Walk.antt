@@ -43,8 +43,12 @@ pub record IsHull (d : Design) (t : Tables) (cell : ℕ) (r : Rect) : Type 0 whe
   pub near : IsNearRect r
   pub all : (c x : ℕ) (q : Square) → NetHolds d t cell x (At c q) → IsIn q r
 
+-- no net of the cell has a square of the conductor
+abbrev pub HasNone : Design → Tables → ℕ → ℕ → Type 0
+HasNone d t cell c = (x : ℕ) (q : Square) → NetHolds d t cell x (At c q) → ⊥
+
 abbrev pub HasNoSquare : Design → Tables → ℕ → Type 0
-HasNoSquare d t cell = (c x : ℕ) (q : Square) → NetHolds d t cell x (At c q) → ⊥
+HasNoSquare d t cell = (c : ℕ) → HasNone d t cell c
 
 -- the placed cell's nets have no square outside the rectangle
 pub record IsSpan (d : Design) (t : Tables) (p : Place) (r : Rect) : Type 0 where

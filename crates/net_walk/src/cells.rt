@@ -1,6 +1,6 @@
 //! What a walk reads of the cells: rectangles, nets, placements and what bounds them.
 
-ghost use Rattle.std.specs.Prelude.{◌≡◌, ℕ, ◌<◌, length, map, IfOk, IfSome, IfNone};
+ghost use Rattle.std.specs.Prelude.{◌≡◌, ℕ, true, ◌<◌, length, map, IfOk, IfSome, IfNone};
 ghost use Rattle.flat_layout.specs.Layout.{Design, IsHeight};
 ghost use Rattle.flat_layout.specs.Nets.{AreNets, Tables};
 ghost use Rattle.flat_layout.specs.Regions.{Wiring};
@@ -8,7 +8,7 @@ ghost use Rattle.geo_base.specs.Near.{IsNearRect};
 ghost use Rattle.net_link_laws.specs.Places.{places_of};
 ghost use Rattle.net_walk.specs.Pairs.{first_of};
 ghost use Rattle.net_walk.specs.Walk.{place_of, AreClose, AreNearOwn, HaveArea, IsClose, IsHull};
-ghost use Rattle.net_walk.specs.Walk.{IsSpan, HasNoSquare};
+ghost use Rattle.net_walk.specs.Walk.{IsSpan, HasNone, HasNoSquare};
 ghost use Rattle.net_walk.specs.Windows.{AreAllNumbers, AreOwnNear, ArePlacesNear};
 
 use geo_base::{Motion, Rect};
@@ -79,6 +79,14 @@ pub trait Cells {
             (place_of element.now)) }
         ensures none { IfNone result (HasNoSquare (design self.now) (tables self.now)
             element.now.cell) };
+
+    /// Whether it is known that no net of a cell has a square of a conductor. Here it never is.
+    fn is_bare(&self, cell: u32, conductor: u32) -> bool
+        ensures { result ≡ true → HasNone (design self.now) (tables self.now) cell conductor }
+    {
+        let _ = (cell, conductor);
+        false
+    }
 
     /// Positions in `own(cell, conductor)`, among them those of all rectangles that share a square
     /// with the window. Here they are all; an index tells few.

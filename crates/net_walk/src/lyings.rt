@@ -9,19 +9,14 @@ ghost use Rattle.touching_pieces.specs.Pairs.{AddsLinks};
 
 use crate::alike::relative;
 use crate::cells::Element;
-use geo_base::Turn;
+use geo_base::{Motion, Turn};
 use link_classes::Link;
 use std::alloc::{AllocError, Global};
 
-// A pair of placements by their numbers, behind what tells how they lie: their cells, and the first
-// as it is seen from the other.
+// A pair of placements by their numbers, behind a number for how they lie.
 #[derive(Clone, Copy, Debug, PartialEq, Eq, PartialOrd, Ord)]
 struct Lying {
-    cell: u32,
-    other_cell: u32,
-    turn: u8,
-    dx: i64,
-    dy: i64,
+    way: u64,
     one: u32,
     other: u32,
 }
@@ -39,6 +34,26 @@ pub(crate) fn turn_number(turn: Turn) -> u8 {
     }
 }
 
+// A number and a further part as one number.
+fn mixed(number: u64, part: u64) -> u64 {
+    let product = (number ^ part).wrapping_mul(0x9E37_79B9_7F4A_7C15);
+    product ^ (product >> 32)
+}
+
+// The same of a part with its sign.
+fn mixed_signed(number: u64, part: i64) -> u64 {
+    let sign = if part < 0 { 1 } else { 0 };
+    mixed(mixed(number, part.unsigned_abs()), sign)
+}
+
+// A number for how two placements lie: for their cells, and for the first as it is seen from the
+// other. Where two ways have one number, each is only looked for more often.
+fn way_of(cell: u32, other: u32, motion: &Motion) -> u64 {
+    let cells = mixed(u64::from(cell), u64::from(other));
+    let turned = mixed(cells, u64::from(turn_number(motion.turn)));
+    mixed_signed(mixed_signed(turned, motion.dx), motion.dy)
+}
+
 // How two placements lie.
 fn lying_of(elements: &[Element], one: u32, other: u32) -> Lying
     requires one { one < length elements.now }
@@ -50,15 +65,8 @@ fn lying_of(elements: &[Element], one: u32, other: u32) -> Lying
     let first = &elements[one as usize];
     let second = &elements[other as usize];
     let motion = relative(&first.motion, &second.motion);
-    Lying {
-        cell: first.cell,
-        other_cell: second.cell,
-        turn: turn_number(motion.turn),
-        dx: motion.dx,
-        dy: motion.dy,
-        one,
-        other,
-    }
+    let way = way_of(first.cell, second.cell, &motion);
+    Lying { way, one, other }
 }
 
 // How the placements of a pair lie, the one of the lesser number first.

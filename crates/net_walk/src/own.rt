@@ -9,6 +9,7 @@ ghost use Rattle.net_walk.specs.Walk.{HaveArea};
 ghost use Rattle.touching_pieces.specs.Pairs.{AreJoined};
 
 use crate::cells::Cells;
+use crate::walk::owned_before;
 use geo_base::Rect;
 use link_classes::Link;
 use std::alloc::{AllocError, Global};
@@ -31,7 +32,7 @@ fn push_rects(own: &[Rect], conductor: u32, at: u32, out: &mut Vec<Piece>) -> Re
     Ok(())
 }
 
-// A cell's own rectangles as pieces, each at the place of its item.
+// A cell's own rectangles as pieces, each at the place of its item. Room is asked for all at once.
 pub(crate) fn own_pieces<C: Cells>(
     alloc: Global,
     cells: &C,
@@ -44,7 +45,8 @@ pub(crate) fn own_pieces<C: Cells>(
     ensures list { IfOk result (λ v. v.items
         ≡ owned_pieces (C.tables cells.now) cell (length (C.wiring cells.now).conductors)) }
 {
-    let mut out = Vec::new(alloc);
+    let count = owned_before(cells, cell, cells.conductors());
+    let mut out = Vec::with_capacity(alloc, count)?;
     let mut at: u32 = 0;
     for conductor in 0..cells.conductors() {
         let own = cells.own(cell, conductor);

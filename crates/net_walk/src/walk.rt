@@ -64,7 +64,7 @@ pub(crate) fn owned_before<C: Cells>(cells: &C, cell: u32, conductors: u32) -> u
 
 /// The cell's nets over the squares of a conductor in the window. Cost: what the cells tell of
 /// rectangles and placements in the window, with the rectangles' lists of the conductors for each
-/// cell that is entered.
+/// cell that is entered; a cell that is known to have nothing of the conductor isn't.
 pub fn collect_nets<C: Cells>(
     alloc: Global,
     cells: &C,
@@ -80,6 +80,9 @@ pub fn collect_nets<C: Cells>(
         conductor window.now v.items) }
 {
     cells.sound();
+    if cells.is_bare(cell, conductor) {
+        return Ok(Vec::new(alloc));
+    }
     let mut out = Vec::new(alloc);
     let net_of = cells.net_of(cell);
     let first = owned_before(cells, cell, conductor);

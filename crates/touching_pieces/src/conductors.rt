@@ -4,7 +4,7 @@ ghost use Rattle.std.specs.Prelude.{◌≡◌, ◌≢◌, OnOk, IfOk};
 ghost use Rattle.touching_pieces.specs.Pairs.{AddsChains, AreInTouch, AreInTouchOf, AreLinksOf};
 ghost use Rattle.touching_pieces.specs.Pairs.{AreOf, of_conductor};
 
-use crate::pairs::touching_chains;
+use crate::pairs::{own_chains, touching_chains};
 use crate::pieces::Piece;
 use link_classes::Link;
 use std::alloc::{AllocError, Global};
@@ -65,7 +65,7 @@ fn link_conductor(
     if own.is_empty() {
         return Ok(());
     }
-    touching_chains(alloc, &own, &own, out)?;
+    own_chains(alloc, &own, out)?;
     for join in joins {
         link_line(alloc, &own, pieces, conductor, join, out)?;
     }

@@ -90,6 +90,14 @@ fn link_all(ones: &[Piece], others: &[Piece], out: &mut Vec<Link>) -> Result<(),
     Ok(())
 }
 
+// What falls to each side of what can be spared, of which the pieces cut of so many take some.
+fn shares(low: usize, high: usize, count: usize, spare: usize) -> (usize, usize) {
+    let parts = high.saturating_add(low);
+    let left = spare.saturating_sub(parts.saturating_sub(count));
+    let low_share = share(left, low, parts);
+    (low_share, left.saturating_sub(low_share))
+}
+
 // The pieces of both lists on either side of a cut.
 #[derive(Drop)]
 struct Parts {
@@ -114,17 +122,10 @@ impl Parts {
         })
     }
 
-    // What falls to each side of what can be spared, of which the pieces cut of so many take some.
     fn shares(&self, count: usize, spare: usize) -> (usize, usize) {
         let low = self.low_ones.len().saturating_add(self.low_others.len());
-        let parts = self
-            .high_ones
-            .len()
-            .saturating_add(self.high_others.len())
-            .saturating_add(low);
-        let left = spare.saturating_sub(parts.saturating_sub(count));
-        let low_share = share(left, low, parts);
-        (low_share, left.saturating_sub(low_share))
+        let high = self.high_ones.len().saturating_add(self.high_others.len());
+        shares(low, high, count, spare)
     }
 }
 
@@ -261,5 +262,76 @@ pub fn touching_chains(
     let within = grown(grown(NOWHERE, ones), others);
     let spare = ones.len().saturating_add(others.len()).saturating_mul(2);
     chain_halves(alloc, ones, others, &within, DEPTH, spare, out)?;
+    Ok(())
+}
+
+// The same for one list taken twice.
+fn own_shares(pieces: &[Piece], cut: &Cut, spare: usize) -> (usize, usize) {
+    let mut low = 0usize;
+    let mut high = 0usize;
+    for piece in pieces {
+        if begins_by(cut, &piece.rect) {
+            low = low.saturating_add(2);
+        }
+        if ends_behind(cut, &piece.rect) {
+            high = high.saturating_add(2);
+        }
+    }
+    shares(low, high, pieces.len().saturating_mul(2), spare)
+}
+
+// Links pieces of one list by chains. The pieces on one side of a cut are gone before those on the
+// other are listed.
+fn chain_own(
+    alloc: Global,
+    pieces: &[Piece],
+    within: &Rect,
+    depth: u32,
+    spare: usize,
+    out: &mut Vec<Link>,
+) -> Result<(), AllocError>
+    ensures { OnOk result (AddsChains (AreInTouch pieces.now pieces.now) out.old.items
+        out.new.items) }
+{
+    if depth == 0 {
+        link_all(pieces, pieces, out)?;
+        return Ok(());
+    }
+    match step_of(pieces, pieces, within, spare) {
+        Step::All => {
+            link_all(pieces, pieces, out)?;
+            Ok(())
+        }
+        Step::Hub(hub) => {
+            let left = link_crowd(alloc, hub, pieces, pieces, within, out)?;
+            chain_halves(alloc, &left, pieces, within, depth - 1, spare, out)?;
+            Ok(())
+        }
+        Step::Halves(cut) => {
+            let (low_share, high_share) = own_shares(pieces, &cut, spare);
+            let (below, above) = cut.halves(within);
+            {
+                let low = lows(alloc, pieces, &cut)?;
+                chain_own(alloc, &low, &below, depth - 1, low_share, out)?;
+            }
+            let high = highs(alloc, pieces, &cut)?;
+            chain_own(alloc, &high, &above, depth - 1, high_share, out)?;
+            Ok(())
+        }
+    }
+}
+
+/// The same of each two pieces of one list: it takes half the time and a quarter of the memory.
+pub(crate) fn own_chains(
+    alloc: Global,
+    pieces: &[Piece],
+    out: &mut Vec<Link>,
+) -> Result<(), AllocError>
+    ensures { OnOk result (AddsChains (AreInTouch pieces.now pieces.now) out.old.items
+        out.new.items) }
+{
+    let within = grown(NOWHERE, pieces);
+    let spare = pieces.len().saturating_mul(4);
+    chain_own(alloc, pieces, &within, DEPTH, spare, out)?;
     Ok(())
 }

@@ -1,13 +1,11 @@
-use Rattle.std.proofs.Common.{◌≡◌, ◌∙◌, ◌<◌, ◌+◌, ℕ, Bool, false, List, Some, slice_get, [], length, get_or, refl, sym, subst, ap, arith}
+use Rattle.std.proofs.Common.{◌≡◌, ◌∙◌, ◌<◌, ◌+◌, ℕ, Bool, false, List, [], length, get_or, refl, sym, subst, ap, arith}
 use Rattle.std.specs.Prelude.{replicate}
-use Rattle.flat_laws.proofs.Items.{placed_at}
-use Rattle.flat_layout.specs.Layout.{Place, IsPlaced}
+use Rattle.flat_layout.specs.Layout.{Place}
 use Rattle.flat_layout.specs.Nets.{AreNets}
 use Rattle.geo_base.specs.declared.shapes.Rect.{Rect}
-use Rattle.net_link_laws.proofs.Held.{under_placed}
 use Rattle.net_link_laws.specs.Places.{owned_before, places_of}
-use Rattle.net_walk.proofs.Holding.{AreMarkedFor, all_held, below_fits, child_marked, false_long, held_at, kept_at, kept_lists, list_within, nets_below, own_marked, written}
-use Rattle.net_walk.proofs.Walking.{as_long, element_at, no_element, own_fits}
+use Rattle.net_walk.proofs.Holding.{AreMarkedFor, all_held, below_fits, child_marked, false_long, held_at, kept_at, kept_lists, list_within, read_below, own_marked, written}
+use Rattle.net_walk.proofs.Walking.{as_long, element_of, no_element, own_read}
 use Rattle.net_walk.proofs.held.+hold.Goals as goal
 use Rattle.net_walk.specs.Held.{AddsMarks, IsNumberedAt}
 use Rattle.net_walk.specs.Walk.{place_of}
@@ -15,44 +13,26 @@ use Rattle.net_walk.specs.declared.held.Held.{Held}
 
 pub owned_before-first-requires : goal.owned_before-first-requires
 owned_before-first-requires g t c =
-    let d = g.C.Cells.design c.args.cells.now in
-    let w = g.C.Cells.wiring c.args.cells.now in
-    let tables = g.C.Cells.tables c.args.cells.now in
-    let cell = c.args.cell in
-    let nets : AreNets d w tables cell (tables.nets cell) = c.requires.nets cell ([], refl) in
-    let fits = own_fits d w tables cell nets c.args.conductor c.requires.known in
-    let long = ap (λ (l : List ℕ). length l) c.net_of-net_of.ensures in
+    let fits = own_read (g.C.Cells.design c.args.cells.now) (g.C.Cells.wiring c.args.cells.now) (g.C.Cells.tables c.args.cells.now) c.args.cell c.args.conductor c.net_of-net_of.result.now
+    c.requires.nets c.requires.known c.net_of-net_of.ensures in
     let f = c.net_of-net_of.type_inv.0 in
-    omega (arith, fits, long, f)
+    omega (arith, fits, f)
 
 pub mark_own-requires-clause-items : goal.mark_own-requires-clause-items
 mark_own-requires-clause-items g t c =
-    let d = g.C.Cells.design c.args.cells.now in
-    let w = g.C.Cells.wiring c.args.cells.now in
-    let tables = g.C.Cells.tables c.args.cells.now in
-    let cell = c.args.cell in
-    let nets : AreNets d w tables cell (tables.nets cell) = c.requires.nets cell ([], refl) in
-    let fits = own_fits d w tables cell nets c.args.conductor c.requires.known in
-    let long = ap (λ (l : List ℕ). length l) c.net_of-net_of.ensures in
+    let fits = own_read (g.C.Cells.design c.args.cells.now) (g.C.Cells.wiring c.args.cells.now) (g.C.Cells.tables c.args.cells.now) c.args.cell c.args.conductor c.net_of-net_of.result.now
+    c.requires.nets c.requires.known c.net_of-net_of.ensures in
     let own = ap (λ (l : List Rect). length l) c.own.ensures.all in
     let first = c.owned_before-first.ensures in
-    omega (arith, fits, long, own, first)
+    omega (arith, fits, own, first)
 
 pub mark_own-requires-clause-nets : goal.mark_own-requires-clause-nets
 mark_own-requires-clause-nets g t c = λ i lt.
-    let d = g.C.Cells.design c.args.cells.now in
-    let w = g.C.Cells.wiring c.args.cells.now in
-    let tables = g.C.Cells.tables c.args.cells.now in
-    let cell = c.args.cell in
-    let nets : AreNets d w tables cell (tables.nets cell) = c.requires.nets cell ([], refl) in
-    let marks = c.in_ok-marks-in-None.marks in
-    let filled : marks.items ≡ replicate c.count.result false = c.in_ok-marks-in-None.ensures.items_if_clones_equal (λ y e. e) in
+    let low = read_below (g.C.Cells.design c.args.cells.now) (g.C.Cells.wiring c.args.cells.now) (g.C.Cells.tables c.args.cells.now) c.args.cell (c.requires.nets c.args.cell ([], refl)) c.net_of-net_of.result.now c.net_of-net_of.ensures i lt in
+    let filled : c.in_ok-marks-in-None.marks.items ≡ replicate c.count.result false = c.in_ok-marks-in-None.ensures.items_if_clones_equal (λ y e. e) in
     let size = ap (λ (l : List Bool). length l) (c.deref_mut.ensures.value ∙ filled) ∙ false_long c.count.result in
     let count = c.count.ensures in
-    let e = c.net_of-net_of.ensures in
-    let low = nets_below d w tables cell nets i (subst (λ (l : List ℕ). i < length l) e lt) in
-    let same = ap (λ (l : List ℕ). get_or l i 0) e in
-    omega (arith, low, same, size, count)
+    omega (arith, low, size, count)
 
 pub loop-number-init : goal.loop-number-init
 loop-number-init g t c =
@@ -72,19 +52,11 @@ loop-number-init g t c =
 
 pub hold-requires : goal.hold-requires
 hold-requires g t c =
-    let d = g.C.Cells.design c.args.cells.now in
-    let w = g.C.Cells.wiring c.args.cells.now in
-    let tables = g.C.Cells.tables c.args.cells.now in
-    let cell = c.args.cell in
-    let nets : AreNets d w tables cell (tables.nets cell) = c.requires.nets cell ([], refl) in
     let k = c.loop-number.number in
-    let es = c.places-elements.result.now in
-    let lt : k < length es = omega arith in
-    let p : Place = place_of (get_or es k no_element) in
-    let there : slice_get (places_of d cell) k ≡ Some p = element_at es (places_of d cell) k c.places-elements.ensures.all lt in
-    let placed : IsPlaced d cell k p = placed_at d cell k p there in
-    let lower = c.sound.ensures.lower cell k p placed in
-    λ κs h. (omega (arith, lower), (h, (c.requires.known, (under_placed d w tables cell k p placed c.requires.nets, c.loop-number.invariant.0))))
+    let it = element_of (g.C.Cells.design c.args.cells.now) (g.C.Cells.wiring c.args.cells.now) (g.C.Cells.tables c.args.cells.now) c.args.cell c.places-elements.result.now c.loop-number.number
+    c.requires.nets c.places-elements.ensures.all (omega arith) in
+    let lower = c.sound.ensures.lower c.args.cell k (place_of (get_or c.places-elements.result.now k no_element)) it.placed in
+    λ κs h. (omega (arith, lower), (h, (c.requires.known, (it.under, c.loop-number.invariant.0))))
 
 pub nets_at-below-requires : goal.nets_at-below-requires
 nets_at-below-requires g t c =
@@ -100,33 +72,21 @@ mark_below-requires-clause-items g t c =
     let w = g.C.Cells.wiring c.args.cells.now in
     let tables = g.C.Cells.tables c.args.cells.now in
     let cell = c.args.cell in
-    let nets : AreNets d w tables cell (tables.nets cell) = c.requires.nets cell ([], refl) in
     let k = c.loop-number.number in
-    let es = c.places-elements.result.now in
-    let lt : k < length es = omega arith in
-    let p : Place = place_of (get_or es k no_element) in
-    let there : slice_get (places_of d cell) k ≡ Some p = element_at es (places_of d cell) k c.places-elements.ensures.all lt in
-    let placed : IsPlaced d cell k p = placed_at d cell k p there in
-    let nets_too : AreNets d w tables p.cell (tables.nets p.cell) = under_placed d w tables cell k p placed c.requires.nets p.cell ([], refl) in
+    let p : Place = place_of (get_or c.places-elements.result.now k no_element) in
+    let it = element_of (g.C.Cells.design c.args.cells.now) (g.C.Cells.wiring c.args.cells.now) (g.C.Cells.tables c.args.cells.now) c.args.cell c.places-elements.result.now c.loop-number.number
+    c.requires.nets c.places-elements.ensures.all (omega arith) in
     let found = c.in_ok-position-in-None.ensures in
     let below = c.nets_at-below.result.now in
-    let at_position = rw c.deref.ensures.value at c.nets_at-below.ensures in
-    let held = held_at d tables c.hold.new.memo.lists.items p.cell c.args.conductor c.in_ok-position-in-None.position below found.lists found.at at_position in
-    λ b o. rw (c.first_place-at.ensures, c.net_of-net_of.ensures) (below_fits d w tables cell nets c.args.conductor c.requires.known k p there nets_too below held b o)
+    let held = held_at d tables c.hold.new.memo.lists.items p.cell c.args.conductor c.in_ok-position-in-None.position below found.lists found.at (rw c.deref.ensures.value at c.nets_at-below.ensures) in
+    λ b o. rw (c.first_place-at.ensures, c.net_of-net_of.ensures) (below_fits d w tables cell (c.requires.nets cell ([], refl)) c.args.conductor c.requires.known k p it.there it.nets below held b o)
 
 pub mark_below-requires-clause-nets : goal.mark_below-requires-clause-nets
 mark_below-requires-clause-nets g t c = λ i lt.
-    let d = g.C.Cells.design c.args.cells.now in
-    let w = g.C.Cells.wiring c.args.cells.now in
-    let tables = g.C.Cells.tables c.args.cells.now in
-    let cell = c.args.cell in
-    let nets : AreNets d w tables cell (tables.nets cell) = c.requires.nets cell ([], refl) in
+    let low = read_below (g.C.Cells.design c.args.cells.now) (g.C.Cells.wiring c.args.cells.now) (g.C.Cells.tables c.args.cells.now) c.args.cell (c.requires.nets c.args.cell ([], refl)) c.net_of-net_of.result.now c.net_of-net_of.ensures i lt in
     let size = ap (λ (l : List Bool). length l) c.deref_mut-in-loop-number.ensures.value in
     let count = c.loop-number.invariant.1.long in
-    let e = c.net_of-net_of.ensures in
-    let low = nets_below d w tables cell nets i (subst (λ (l : List ℕ). i < length l) e lt) in
-    let same = ap (λ (l : List ℕ). get_or l i 0) e in
-    omega (arith, low, same, size, count)
+    omega (arith, low, size, count)
 
 pub loop-number-preserved : goal.loop-number-preserved
 loop-number-preserved g t c =
@@ -134,23 +94,21 @@ loop-number-preserved g t c =
     let w = g.C.Cells.wiring c.args.cells.now in
     let tables = g.C.Cells.tables c.args.cells.now in
     let cell = c.args.cell in
-    let nets : AreNets d w tables cell (tables.nets cell) = c.requires.nets cell ([], refl) in
     let k = c.loop-number.number in
-    let es = c.places-elements.result.now in
-    let lt : k < length es = omega arith in
-    let p : Place = place_of (get_or es k no_element) in
-    let there : slice_get (places_of d cell) k ≡ Some p = element_at es (places_of d cell) k c.places-elements.ensures.all lt in
-    let placed : IsPlaced d cell k p = placed_at d cell k p there in
-    let nets_too : AreNets d w tables p.cell (tables.nets p.cell) = under_placed d w tables cell k p placed c.requires.nets p.cell ([], refl) in
+    let p : Place = place_of (get_or c.places-elements.result.now k no_element) in
+    let it = element_of (g.C.Cells.design c.args.cells.now) (g.C.Cells.wiring c.args.cells.now) (g.C.Cells.tables c.args.cells.now) c.args.cell c.places-elements.result.now c.loop-number.number
+    c.requires.nets c.places-elements.ensures.all (omega arith) in
     let found = c.in_ok-position-in-None.ensures in
     let below = c.nets_at-below.result.now in
-    let at_position = rw c.deref.ensures.value at c.nets_at-below.ensures in
-    let held = held_at d tables c.hold.new.memo.lists.items p.cell c.args.conductor c.in_ok-position-in-None.position below found.lists found.at at_position in
+    let held = held_at d tables c.hold.new.memo.lists.items p.cell c.args.conductor c.in_ok-position-in-None.position below found.lists found.at (rw c.deref.ensures.value at c.nets_at-below.ensures) in
     let old = c.loop-number.marks in
     let new = c.mark_below.new.marks in
     let seen = rw (c.net_of-net_of.ensures, c.first_place-at.ensures, c.deref_mut-in-loop-number.ensures.value) at c.mark_below.ensures in
-    let one : length new ≡ old.len = c.mark_below.ensures.long ∙ ap (λ (l : List Bool). length l) c.deref_mut-in-loop-number.ensures.value ∙ sym old.ok.0 in
-    (found.lists, subst (λ (ms : List Bool). AreMarkedFor d tables cell c.args.conductor (k + 1) ms) (sym (written old.len new old.items one)) (child_marked d w tables cell nets c.args.conductor c.requires.known k p there nets_too below held old.items new c.loop-number.invariant.1 seen))
+    let one : length new ≡ old.len = c.mark_below.ensures.long ∙ ap (λ (l : List Bool). length l) c.deref_mut-in-loop-number.ensures.value ∙ sym old.ok.0 in (
+      found.lists,
+      subst (λ (ms : List Bool). AreMarkedFor d tables cell c.args.conductor (k + 1) ms) (sym (written old.len new old.items one))
+          (child_marked d w tables cell (c.requires.nets cell ([], refl)) c.args.conductor c.requires.known k p it.there it.nets below held old.items new c.loop-number.invariant.1 seen),
+    )
 
 pub returns-in_ok-last-in-None-clause-lists : goal.returns-in_ok-last-in-None-clause-lists
 returns-in_ok-last-in-None-clause-lists g t c =

@@ -4,7 +4,7 @@ use Rattle.touching_pieces.proofs.conductors.link_conductor.Goals as goal
 
 pub loop-join-init : goal.loop-join-init
 loop-join-init c =
-    let h = rw (c.deref.ensures.value, c.deref-2.ensures.value, c.in_ok-own.ensures) at c.in_ok-touching_chains.ensures in
+    let h = rw (c.deref.ensures.value, c.in_ok-own.ensures) at c.in_ok-own_chains.ensures in
     no_line c.args.pieces.now c.args.conductor c.args.out.now.items _ h
 
 pub link_line-requires : goal.link_line-requires
