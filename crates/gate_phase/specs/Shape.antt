@@ -3,15 +3,21 @@ use Rattle.std.specs.Prelude.{◌≡◌, ◌↔◌, ℕ, ◌<◌, List, length}
 use Rattle.geo_base.specs.declared.shapes.Rect.{Rect}
 use Rattle.geo_base.specs.declared.shapes.Square.{Square}
 use Rattle.flat_layout.specs.Gates.{Geometry, InGate, IsSettled, Kind, Mos, Resistor}
-use Rattle.flat_layout.specs.Gates.{Diode}
+use Rattle.flat_layout.specs.Gates.{Diode, Rule, geometry, sheets}
+use Rattle.flat_layout.specs.Layers.{Formula, IsKept}
 use Rattle.flat_layout.specs.Layout.{Design, IsReached}
+use Rattle.flat_layout.specs.Parts.{IsCloseTo, Sheets}
+use Rattle.flat_layout.specs.Regions.{Wiring}
 use Rattle.cell_graph.specs.Linked.{Linked, plain}
 use Rattle.rule_text.specs.Rules.{Rules}
+use Rattle.rule_text.specs.Seen.{rules_seen}
 use Rattle.rule_text.specs.Sound.{IsSound}
-use Rattle.gate_phase.specs.Indexes.{AreLayersOf, LayersOf}
-use Rattle.gate_search.specs.Gather.{AreMet}
-use Rattle.flat_layout.specs.Parts.{IsCloseTo}
+use Rattle.rule_layers.specs.Meaning.{wiring_of}
 use Rattle.gate_shapes.specs.Sets.{in_set}
+use Rattle.gate_search.specs.Gather.{AreMet}
+use Rattle.gate_phase.specs.Indexes.{AreLayersOf, LayersOf}
+use Rattle.gate_phase.specs.Kept.{HasLocals}
+use Rattle.gate_phase.specs.declared.shape.Site.{Site}
 
 -- the part is the settled gate that has s, and these squares are close to it
 pub record IsGatePart (d : Design) (g : Geometry) (cell : ℕ) (s : Square)
@@ -33,3 +39,38 @@ pub record IsReadyShape (d : Linked) (r : Rules) (l : LayersOf) (cell : ℕ) : T
   pub known : cell < length d.cells
   pub layers : AreLayersOf (plain d) r l
   pub reached : IsReached (plain d) cell
+
+-- The same of a site: a cell with its layout, the rules and the layers.
+
+abbrev pub layout_at : Site → Design
+layout_at site = plain site.design.now
+
+abbrev pub wiring_at : Site → Wiring
+wiring_at site = wiring_of (rules_seen site.rules.now)
+
+abbrev pub IsReadySite : Site → Type 0
+IsReadySite site = IsReadyShape site.design.now (rules_seen site.rules.now) site.layers.now
+    site.cell
+
+-- the set is what the cell keeps of the name, met at these windows
+abbrev pub IsKeptAt : Site → ℕ → (windows set : List Rect) → Type 0
+IsKeptAt site name windows set = (x : Formula) → HasLocals (layout_at site) site.layers.now name x
+    → AreMet (IsKept (layout_at site) site.cell x) windows set
+
+-- the set is what the gates of such devices must lie on
+abbrev pub IsSheetAt : Site → Kind → ℕ → (windows part set : List Rect) → Type 0
+IsSheetAt site kind name windows part set = (x : Formula)
+    → HasLocals (layout_at site) site.layers.now name x
+    → IsGateSheet kind (IsKept (layout_at site) site.cell x) windows part set
+
+-- the rule's gate that has s
+abbrev pub IsGateAt : Site → Rule → Square → Square → Type 0
+IsGateAt site u s q = InGate (layout_at site) (geometry (wiring_at site) u) site.cell s q
+
+abbrev pub IsPartAt : Site → Rule → Square → (part close : List Rect) → Type 0
+IsPartAt site u s part close = IsGatePart (layout_at site) (geometry (wiring_at site) u) site.cell s
+    part close
+
+-- the sheets of the rule
+abbrev pub sheets_at : Site → Rule → Sheets
+sheets_at site u = sheets (layout_at site) (wiring_at site) u site.cell

@@ -21,7 +21,7 @@ use crate::close::{close_to, is_undisturbed};
 use crate::device::Device;
 use crate::indexes::IndexedLayers;
 use crate::search::parts_of;
-use crate::shape::shape_in;
+use crate::shape::{Site, shape_in};
 use cell_graph::Design;
 use deep_tables::Zones;
 use gate_shapes::{GateShape, least};
@@ -110,7 +110,13 @@ fn own_gate(
     if !is_own(alloc, design, zones, cell, number, &close, least, reach)? {
         return Ok(None);
     }
-    let shape = shape_in(alloc, design, rules, layers, cell, device, &part, &close)?;
+    let site = Site {
+        design,
+        rules,
+        layers,
+        cell,
+    };
+    let shape = shape_in(alloc, &site, device, &part, &close)?;
     Ok(Some(OwnGate {
         area: part,
         least,

@@ -1,22 +1,22 @@
 //! The shape of a region, by what its cell keeps close to it.
-ghost use Rattle.std.specs.Prelude.{◌≡◌, ◌↔◌, ◌<◌, ◌^◌, ℕ, true, None, length, Some, IfOk};
+ghost use Rattle.std.specs.Prelude.{◌≡◌, ◌↔◌, ◌<◌, ◌^◌, true, None, length, Some, IfOk};
 ghost use Rattle.std.specs.List.{All};
 ghost use Rattle.geo_base.specs.declared.shapes.Square.{Square};
 ghost use Rattle.rect_sets.specs.Near.{IsNearSet};
-ghost use Rattle.flat_layout.specs.Gates.{InGate, IsSettled, Rule, form_of, geometry, sheets};
+ghost use Rattle.flat_layout.specs.Gates.{IsSettled, Rule, form_of, geometry};
 ghost use Rattle.flat_layout.specs.Layout.{IsReached};
 ghost use Rattle.flat_layout.specs.Regions.{ground_of};
-ghost use Rattle.cell_graph.specs.Linked.{IsRectWithin, plain};
+ghost use Rattle.cell_graph.specs.Linked.{IsRectWithin};
 ghost use Rattle.rule_text.specs.Seen.{rules_seen};
-ghost use Rattle.rule_layers.specs.Meaning.{grounds_of, wiring_of};
+ghost use Rattle.rule_layers.specs.Meaning.{grounds_of};
 ghost use Rattle.gate_shapes.specs.Sets.{in_set};
 ghost use Rattle.gate_shapes.specs.Shapes.{IsShape, IsShapeAlone, IsShapeBy};
-ghost use Rattle.flat_layout.specs.Layers.{Formula, IsKept};
+ghost use Rattle.flat_layout.specs.Layers.{Formula};
 ghost use Rattle.rule_layers.specs.Formulas.{formulas};
 ghost use Rattle.gate_phase.specs.Devices.{IsDevice, IsKnownDevice, kind_seen};
 ghost use Rattle.gate_phase.specs.Kept.{HasLocals};
-ghost use Rattle.gate_search.specs.Gather.{AreMet};
-ghost use Rattle.gate_phase.specs.Shape.{IsGatePart, IsGateSheet, IsReadyShape};
+ghost use Rattle.gate_phase.specs.Shape.{IsGateAt, IsKeptAt, IsPartAt, IsReadySite, IsSheetAt};
+ghost use Rattle.gate_phase.specs.Shape.{layout_at, sheets_at, wiring_at};
 
 use crate::device::{Device, Kind};
 use crate::indexes::IndexedLayers;
@@ -27,6 +27,15 @@ use geo_base::Rect;
 use rect_sets::RectSet;
 use rule_text::RuleSet;
 use std::alloc::{AllocError, Global};
+
+/// A cell, with what its shapes are judged by.
+#[derive(Clone, Copy)]
+pub struct Site<'a> {
+    pub design: &'a Design,
+    pub rules: &'a RuleSet,
+    pub layers: &'a IndexedLayers<'a>,
+    pub cell: u32,
+}
 
 // Whether the conductor has no global.
 fn is_loose(rules: &RuleSet, conductor: u32) -> bool
@@ -43,23 +52,27 @@ fn is_loose(rules: &RuleSet, conductor: u32) -> bool
 // What the cell keeps of the bulk's conductor, where that has no global: else nothing is asked of it.
 fn bulk_in(
     alloc: Global,
-    design: &Design,
-    layers: &IndexedLayers,
-    cell: u32,
+    site: &Site<'_>,
     conductor: u32,
     windows: &[Rect],
     loose: bool,
 ) -> Result<RectSet, AllocError>
-    requires cell { cell < length design.now.cells }
-    requires reached { IsReached (plain design.now) cell }
-    requires locals { (x : Formula) × HasLocals (plain design.now) layers.now conductor x }
+    requires cell { site.now.cell < length site.now.design.now.cells }
+    requires reached { IsReached (layout_at site.now) site.now.cell }
+    requires locals { (x : Formula)
+        × HasLocals (layout_at site.now) site.now.layers.now conductor x }
     requires windows { All (IsRectWithin (2 ^ 39)) windows.now }
-    ensures { IfOk result (λ s. loose ≡ true → (x : Formula)
-        → HasLocals (plain design.now) layers.now conductor x
-        → AreMet (IsKept (plain design.now) cell x) windows.now s) }
+    ensures { IfOk result (λ s. loose ≡ true → IsKeptAt site.now conductor windows.now s) }
 {
     if loose {
-        return kept_in(alloc, design, layers, cell, conductor, windows);
+        return kept_in(
+            alloc,
+            site.design,
+            site.layers,
+            site.cell,
+            conductor,
+            windows,
+        );
     }
     Ok(RectSet::empty(alloc))
 }
@@ -67,10 +80,7 @@ fn bulk_in(
 // The shape of a region by its two groups, by what they and its gate must lie on.
 fn judged_shape(
     alloc: Global,
-    design: &Design,
-    rules: &RuleSet,
-    layers: &IndexedLayers,
-    cell: u32,
+    site: &Site<'_>,
     device: &Device,
     ends: u32,
     groups: &RectSet,
@@ -79,30 +89,25 @@ fn judged_shape(
     part: &RectSet,
     close: &RectSet,
 ) -> Result<GateShape, AllocError>
-    requires ready { IsReadyShape design.now (rules_seen rules.now) layers.now cell }
-    requires device { IsKnownDevice (rules_seen rules.now) device.now }
-    requires ends { ends < length rules.now.names.items }
+    requires ready { IsReadySite site.now }
+    requires device { IsKnownDevice (rules_seen site.now.rules.now) device.now }
+    requires ends { ends < length site.now.rules.now.names.items }
     requires near { IsNearSet part.now }
     requires windows { All (IsRectWithin (2 ^ 39)) close.now }
-    requires groups { (x : Formula) → HasLocals (plain design.now) layers.now ends x
-        → AreMet (IsKept (plain design.now) cell x) close.now groups.now }
-    requires on_ends { (x : Formula) → HasLocals (plain design.now) layers.now device.now.ts x
-        → AreMet (IsKept (plain design.now) cell x) close.now on_ends.now }
-    requires sheet { (x : Formula) → HasLocals (plain design.now) layers.now device.now.tg x
-        → IsGateSheet (kind_seen device.now.kind) (IsKept (plain design.now) cell x) close.now
-        part.now on_gate.now }
+    requires groups { IsKeptAt site.now ends close.now groups.now }
+    requires on_ends { IsKeptAt site.now device.now.ts close.now on_ends.now }
+    requires sheet { IsSheetAt site.now (kind_seen device.now.kind) device.now.tg close.now part.now
+        on_gate.now }
     ensures { IfOk result (λ x. (u : Rule) (s : Square)
-        → IsDevice (formulas rules.now.names.items) device.now u
+        → IsDevice (formulas site.now.rules.now.names.items) device.now u
         → device.now.ends ≡ Some ends
-        → IsGatePart (plain design.now) (geometry (wiring_of (rules_seen rules.now)) u) cell s
-        part.now close.now
-        → IsShape (sheets (plain design.now) (wiring_of (rules_seen rules.now)) u cell)
-        (InGate (plain design.now) (geometry (wiring_of (rules_seen rules.now)) u) cell s) x) }
+        → IsPartAt site.now u s part.now close.now
+        → IsShape (sheets_at site.now u) (IsGateAt site.now u s) x) }
 {
     let _ = ends;
-    let loose = is_loose(rules, device.tb);
+    let loose = is_loose(site.rules, device.tb);
     let windows = close.rects();
-    let on_bulk = bulk_in(alloc, design, layers, cell, device.tb, windows, loose)?;
+    let on_bulk = bulk_in(alloc, site, device.tb, windows, loose)?;
     let around = Around {
         ends: groups,
         on_ends,
@@ -117,43 +122,43 @@ fn judged_shape(
 // is their conductor, it is looked at once.
 fn beside_shape(
     alloc: Global,
-    design: &Design,
-    rules: &RuleSet,
-    layers: &IndexedLayers,
-    cell: u32,
+    site: &Site<'_>,
     device: &Device,
     ends: u32,
     on_gate: &RectSet,
     part: &RectSet,
     close: &RectSet,
 ) -> Result<GateShape, AllocError>
-    requires ready { IsReadyShape design.now (rules_seen rules.now) layers.now cell }
-    requires device { IsKnownDevice (rules_seen rules.now) device.now }
-    requires ends { ends < length rules.now.names.items }
+    requires ready { IsReadySite site.now }
+    requires device { IsKnownDevice (rules_seen site.now.rules.now) device.now }
+    requires ends { ends < length site.now.rules.now.names.items }
     requires near { IsNearSet part.now }
     requires windows { All (IsRectWithin (2 ^ 39)) close.now }
-    requires sheet { (x : Formula) → HasLocals (plain design.now) layers.now device.now.tg x
-        → IsGateSheet (kind_seen device.now.kind) (IsKept (plain design.now) cell x) close.now
-        part.now on_gate.now }
+    requires sheet { IsSheetAt site.now (kind_seen device.now.kind) device.now.tg close.now part.now
+        on_gate.now }
     ensures { IfOk result (λ x. (u : Rule) (s : Square)
-        → IsDevice (formulas rules.now.names.items) device.now u
+        → IsDevice (formulas site.now.rules.now.names.items) device.now u
         → device.now.ends ≡ Some ends
-        → IsGatePart (plain design.now) (geometry (wiring_of (rules_seen rules.now)) u) cell s
-        part.now close.now
-        → IsShape (sheets (plain design.now) (wiring_of (rules_seen rules.now)) u cell)
-        (InGate (plain design.now) (geometry (wiring_of (rules_seen rules.now)) u) cell s) x) }
+        → IsPartAt site.now u s part.now close.now
+        → IsShape (sheets_at site.now u) (IsGateAt site.now u s) x) }
 {
     let windows = close.rects();
-    let groups = kept_in(alloc, design, layers, cell, ends, windows)?;
+    let groups = kept_in(alloc, site.design, site.layers, site.cell, ends, windows)?;
     if device.ts == ends {
         return judged_shape(
-            alloc, design, rules, layers, cell, device, ends, &groups, &groups, on_gate, part,
-            close,
+            alloc, site, device, ends, &groups, &groups, on_gate, part, close,
         );
     }
-    let on_ends = kept_in(alloc, design, layers, cell, device.ts, windows)?;
+    let on_ends = kept_in(
+        alloc,
+        site.design,
+        site.layers,
+        site.cell,
+        device.ts,
+        windows,
+    )?;
     judged_shape(
-        alloc, design, rules, layers, cell, device, ends, &groups, &on_ends, on_gate, part, close,
+        alloc, site, device, ends, &groups, &on_ends, on_gate, part, close,
     )
 }
 
@@ -161,72 +166,80 @@ fn beside_shape(
 // resistor nothing is asked, so that the part itself will do.
 fn grouped_shape(
     alloc: Global,
-    design: &Design,
-    rules: &RuleSet,
-    layers: &IndexedLayers,
-    cell: u32,
+    site: &Site<'_>,
     device: &Device,
     ends: u32,
     part: &RectSet,
     close: &RectSet,
 ) -> Result<GateShape, AllocError>
-    requires ready { IsReadyShape design.now (rules_seen rules.now) layers.now cell }
-    requires device { IsKnownDevice (rules_seen rules.now) device.now }
-    requires ends { ends < length rules.now.names.items }
+    requires ready { IsReadySite site.now }
+    requires device { IsKnownDevice (rules_seen site.now.rules.now) device.now }
+    requires ends { ends < length site.now.rules.now.names.items }
     requires near { IsNearSet part.now }
     requires windows { All (IsRectWithin (2 ^ 39)) close.now }
     ensures { IfOk result (λ x. (u : Rule) (s : Square)
-        → IsDevice (formulas rules.now.names.items) device.now u
+        → IsDevice (formulas site.now.rules.now.names.items) device.now u
         → device.now.ends ≡ Some ends
-        → IsGatePart (plain design.now) (geometry (wiring_of (rules_seen rules.now)) u) cell s
-        part.now close.now
-        → IsShape (sheets (plain design.now) (wiring_of (rules_seen rules.now)) u cell)
-        (InGate (plain design.now) (geometry (wiring_of (rules_seen rules.now)) u) cell s) x) }
+        → IsPartAt site.now u s part.now close.now
+        → IsShape (sheets_at site.now u) (IsGateAt site.now u s) x) }
 {
     match device.kind {
         Kind::Transistor => {
-            let on_gate = kept_in(alloc, design, layers, cell, device.tg, close.rects())?;
-            beside_shape(
-                alloc, design, rules, layers, cell, device, ends, &on_gate, part, close,
-            )
+            let on_gate = kept_in(
+                alloc,
+                site.design,
+                site.layers,
+                site.cell,
+                device.tg,
+                close.rects(),
+            )?;
+            beside_shape(alloc, site, device, ends, &on_gate, part, close)
         }
-        Kind::Resistor | Kind::Diode => beside_shape(
-            alloc, design, rules, layers, cell, device, ends, part, part, close,
-        ),
+        Kind::Resistor | Kind::Diode => beside_shape(alloc, site, device, ends, part, part, close),
     }
 }
 
 // The shape of a region alone.
 fn alone_shape(
     alloc: Global,
-    design: &Design,
-    rules: &RuleSet,
-    layers: &IndexedLayers,
-    cell: u32,
+    site: &Site<'_>,
     device: &Device,
     part: &RectSet,
 ) -> Result<GateShape, AllocError>
-    requires ready { IsReadyShape design.now (rules_seen rules.now) layers.now cell }
-    requires device { IsKnownDevice (rules_seen rules.now) device.now }
+    requires ready { IsReadySite site.now }
+    requires device { IsKnownDevice (rules_seen site.now.rules.now) device.now }
     requires near { IsNearSet part.now }
     requires some { (q : Square) × in_set part.now q }
     requires windows { All (IsRectWithin (2 ^ 39)) part.now }
     ensures { IfOk result (λ x. (u : Rule) (s : Square)
-        → IsDevice (formulas rules.now.names.items) device.now u
-        → IsSettled (plain design.now) (geometry (wiring_of (rules_seen rules.now)) u) cell s
+        → IsDevice (formulas site.now.rules.now.names.items) device.now u
+        → IsSettled (layout_at site.now) (geometry (wiring_at site.now) u) site.now.cell s
         → ((q : Square) → in_set part.now q
-        ↔ InGate (plain design.now) (geometry (wiring_of (rules_seen rules.now)) u) cell s q)
-        → IsShapeAlone (sheets (plain design.now) (wiring_of (rules_seen rules.now)) u cell)
-        (InGate (plain design.now) (geometry (wiring_of (rules_seen rules.now)) u) cell s) x) }
+        ↔ IsGateAt site.now u s q)
+        → IsShapeAlone (sheets_at site.now u) (IsGateAt site.now u s) x) }
 {
     let windows = part.rects();
-    let on_ends = kept_in(alloc, design, layers, cell, device.ts, windows)?;
-    let on_bulk = kept_in(alloc, design, layers, cell, device.tb, windows)?;
+    let on_ends = kept_in(
+        alloc,
+        site.design,
+        site.layers,
+        site.cell,
+        device.ts,
+        windows,
+    )?;
+    let on_bulk = kept_in(
+        alloc,
+        site.design,
+        site.layers,
+        site.cell,
+        device.tb,
+        windows,
+    )?;
     let sheets = Sheets {
         on_ends: &on_ends,
         on_bulk: &on_bulk,
-        free: is_loose(rules, device.ts),
-        loose: is_loose(rules, device.tb),
+        free: is_loose(site.rules, device.ts),
+        loose: is_loose(site.rules, device.tb),
     };
     area_shape(alloc, part, &sheets)
 }
@@ -235,32 +248,24 @@ fn alone_shape(
 /// fault. What the cell keeps is looked at close to the region alone.
 pub fn shape_in(
     alloc: Global,
-    design: &Design,
-    rules: &RuleSet,
-    layers: &IndexedLayers,
-    cell: u32,
+    site: &Site<'_>,
     device: &Device,
     part: &RectSet,
     close: &RectSet,
 ) -> Result<GateShape, AllocError>
-    requires ready { IsReadyShape design.now (rules_seen rules.now) layers.now cell }
-    requires device { IsKnownDevice (rules_seen rules.now) device.now }
+    requires ready { IsReadySite site.now }
+    requires device { IsKnownDevice (rules_seen site.now.rules.now) device.now }
     requires near { IsNearSet part.now }
     requires some { (q : Square) × in_set part.now q }
     requires part { All (IsRectWithin (2 ^ 39)) part.now }
     requires windows { All (IsRectWithin (2 ^ 39)) close.now }
     ensures { IfOk result (λ x. (u : Rule) (s : Square)
-        → IsDevice (formulas rules.now.names.items) device.now u
-        → IsGatePart (plain design.now) (geometry (wiring_of (rules_seen rules.now)) u) cell s
-        part.now close.now
-        → IsShapeBy (form_of u.kind) (sheets (plain design.now) (wiring_of (rules_seen rules.now))
-        u cell)
-        (InGate (plain design.now) (geometry (wiring_of (rules_seen rules.now)) u) cell s) x) }
+        → IsDevice (formulas site.now.rules.now.names.items) device.now u
+        → IsPartAt site.now u s part.now close.now
+        → IsShapeBy (form_of u.kind) (sheets_at site.now u) (IsGateAt site.now u s) x) }
 {
     match device.ends {
-        Some(ends) => grouped_shape(
-            alloc, design, rules, layers, cell, device, ends, part, close,
-        ),
-        None => alone_shape(alloc, design, rules, layers, cell, device, part),
+        Some(ends) => grouped_shape(alloc, site, device, ends, part, close),
+        None => alone_shape(alloc, site, device, part),
     }
 }

@@ -1,5 +1,5 @@
 //! What the phases of transistors and of further devices read, made once for both.
-ghost use Rattle.std.specs.Prelude.{◌≡◌, ◌<◌, ◌≤◌, length, Bool, IfOk};
+ghost use Rattle.std.specs.Prelude.{◌≡◌, ◌<◌, ◌≤◌, length, IfOk};
 ghost use Rattle.cell_graph.specs.Linked.{plain};
 ghost use Rattle.deep_tables.specs.Entries.{upward_cell};
 ghost use Rattle.deep_tables.specs.Jobs.{AreFreeJobs};

@@ -18,16 +18,16 @@ use Rattle.gate_phase.proofs.shape.alone_shape.Goals as goal
 
 pub kept_in-requires-clause-locals : goal.kept_in-requires-clause-locals
 kept_in-requires-clause-locals c =
-    let r = rules_seen c.args.rules.now in let x = c.args.device.now in (get_or (formulas r.names) x.ts Empty, locals_of (plain c.args.design.now) r c.args.layers.now x.ts c.requires.ready.layers c.requires.device.ts.known c.requires.ready.rules)
+    let r = rules_seen c.args.site.now.rules.now in let x = c.args.device.now in (get_or (formulas r.names) x.ts Empty, locals_of (plain c.args.site.now.design.now) r c.args.site.now.layers.now x.ts c.requires.ready.layers c.requires.device.ts.known c.requires.ready.rules)
 
 pub kept_in-requires-2-clause-locals : goal.kept_in-requires-2-clause-locals
 kept_in-requires-2-clause-locals c =
-    let r = rules_seen c.args.rules.now in let x = c.args.device.now in (get_or (formulas r.names) x.tb Empty, locals_of (plain c.args.design.now) r c.args.layers.now x.tb c.requires.ready.layers c.requires.device.tb.known c.requires.ready.rules)
+    let r = rules_seen c.args.site.now.rules.now in let x = c.args.device.now in (get_or (formulas r.names) x.tb Empty, locals_of (plain c.args.site.now.design.now) r c.args.site.now.layers.now x.tb c.requires.ready.layers c.requires.device.tb.known c.requires.ready.rules)
 
 pub returns : goal.returns
 returns c =
-    let d = plain c.args.design.now in let r = rules_seen c.args.rules.now in let x = c.args.device.now in let cell = c.args.cell in
-    let w = wiring_of r in let layers = c.args.layers.now in let part = c.args.part.now in
+    let d = plain c.args.site.now.design.now in let r = rules_seen c.args.site.now.rules.now in let x = c.args.device.now in let cell = c.args.site.now.cell in
+    let w = wiring_of r in let layers = c.args.site.now.layers.now in let part = c.args.part.now in
     let f = formulas r.names in
     let is_met : (y : Formula) (name : ℕ) (set : List Rect) → y ≡ get_or f name Empty → name < length r.names → ((z : Formula) → HasLocals d layers name z → AreMet (IsKept d cell z) c.rects-windows.result.now set) → AreMet (IsKept d cell y) part set =
     λ y name set e lt h.

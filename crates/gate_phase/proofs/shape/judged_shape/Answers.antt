@@ -19,12 +19,12 @@ use Rattle.gate_phase.proofs.shape.judged_shape.Goals as goal
 
 pub bulk_in-requires-clause-locals : goal.bulk_in-requires-clause-locals
 bulk_in-requires-clause-locals c =
-    let r = rules_seen c.args.rules.now in let x = c.args.device.now in (get_or (formulas r.names) x.tb Empty, locals_of (plain c.args.design.now) r c.args.layers.now x.tb c.requires.ready.layers c.requires.device.tb.known c.requires.ready.rules)
+    let r = rules_seen c.args.site.now.rules.now in let x = c.args.device.now in (get_or (formulas r.names) x.tb Empty, locals_of (plain c.args.site.now.design.now) r c.args.site.now.layers.now x.tb c.requires.ready.layers c.requires.device.tb.known c.requires.ready.rules)
 
 pub returns : goal.returns
 returns c =
-    let d = plain c.args.design.now in let r = rules_seen c.args.rules.now in let x = c.args.device.now in let cell = c.args.cell in
-    let w = wiring_of r in let layers = c.args.layers.now in let part = c.args.part.now in let close = c.args.close.now in
+    let d = plain c.args.site.now.design.now in let r = rules_seen c.args.site.now.rules.now in let x = c.args.device.now in let cell = c.args.site.now.cell in
+    let w = wiring_of r in let layers = c.args.site.now.layers.now in let part = c.args.part.now in let close = c.args.close.now in
     let f = formulas r.names in let groups = c.args.groups.now in let on_ends = c.args.on_ends.now in let on_bulk = c.in_ok-on_bulk.on_bulk in
     let is_met : (name : ℕ) (set : List Rect) → name < length r.names → ((y : Formula) → HasLocals d layers name y → AreMet (IsKept d cell y) close set) → AreMet (IsKept d cell (get_or f name Empty)) close set =
     λ name set lt h. h (get_or f name Empty) (locals_of d r layers name c.requires.ready.layers lt c.requires.ready.rules) in
