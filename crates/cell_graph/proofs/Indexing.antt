@@ -119,19 +119,23 @@ no_span_here cells c n place q ref there at (inl e) r has =
 no_span_here cells c n place q ref there at (inr (inl (row, column, in_rows, in_columns, far))) r has = far (ref.elements row column in_rows in_columns).dx
 no_span_here cells c n place q ref there at (inr (inr (row, column, in_rows, in_columns, far))) r has = far (ref.elements row column in_rows in_columns).dy
 
-pub reference_in : (cells : List CellPart) (i n : ℕ) (c : CellPart) (place : Place) → AreSoundCells cells → slice_get cells i ≡ Some c → slice_get c.places.items n ≡ Some place → IsReference cells c place
-reference_in cells i n c place sound at there = all_at (IsReference cells c) c.places.items n place (sound i c at).places there
-
 -- a reference that was read by its number, in a cell that was
+pub record IsRead (cells : List CellPart) (n : ℕ) (part : CellPart) (place : Place) : Type 0 where
+  pub at : slice_get part.places.items n ≡ Some place
+  pub ref : IsReference cells part place
+  pub inside : place.cell < length cells
+
 pub reference_read : (cells : List CellPart) (cell n : ℕ) (part : CellPart) (place : Place) (end : ℕ) → AreSoundCells cells → cell < length cells → part ≡ get_or cells cell part → end ≡ vec_len (get_or cells cell part).places → n < end
-    → place ≡ get_or (get_or cells cell part).places.items n place → IsReference cells part place
+    → place ≡ get_or (get_or cells cell part).places.items n place → IsRead cells n part place
 reference_read cells cell n part place end sound inside is long lt read =
     let there : slice_get cells cell ≡ Some part = slice_get-get_or cells cell part inside ∙ ap Some (sym is) in
     let count : end ≡ vec_len part.places = subst (λ (q : CellPart). end ≡ vec_len q.places) (sym is) long in
     let ok = part.places.ok.0 in
     let below : n < length part.places.items = omega arith in
     let here : place ≡ get_or part.places.items n place = subst (λ (q : CellPart). place ≡ get_or q.places.items n place) (sym is) read in
-    reference_in cells cell n part place sound there (slice_get-get_or part.places.items n place below ∙ ap Some (sym here))
+    let at : slice_get part.places.items n ≡ Some place = slice_get-get_or part.places.items n place below ∙ ap Some (sym here) in
+    let ref = all_at (IsReference cells part) part.places.items n place (sound cell part there).places at in
+    record { at = at; ref = ref; inside = slice_get_within cells place.cell ref.placed ref.there }
 
 pub hull_read : (cells : List CellPart) (cell : ℕ) (part : CellPart) → AreSoundCells cells → cell < length cells → HullIsSound (get_or cells cell part).hull
 hull_read cells cell part sound inside = (sound cell (get_or cells cell part) (slice_get-get_or cells cell part inside)).hull

@@ -1,15 +1,15 @@
 -- Bounds along an order from below.
-use Rattle.std.proofs.Common.{◌≡◌, ◌⊎◌, inl, inr, ℕ, zero, suc, ◌+◌, ◌<◌, ◌≤◌, List, [], ◌∷◌, ◌++◌, Option, Some, None, length, set, slice_get, refl, sym, ◌∙◌, ap, subst, arith}
+use Rattle.std.proofs.Common.{◌≡◌, ◌⊎◌, inl, inr, ℕ, zero, suc, ◌+◌, ◌<◌, ◌≤◌, List, [], ◌∷◌, ◌++◌, Option, Some, None, length, set, slice_get, get_or, refl, sym, ◌∙◌, ap, subst, arith}
 use Rattle.std.proofs.Math.Decide.{ℕ_discrete}
 use Rattle.std.proofs.Math.ListN.{replicate}
 use Rattle.std.proofs.lemmas.List.{get_or-set_same, get_or-set_other, length-set, length-replicate}
-use Rattle.std.proofs.lemmas.Option.{slice_get_within}
+use Rattle.std.proofs.lemmas.Option.{slice_get_within, slice_get-get_or}
 use Rattle.cell_graph.specs.declared.cells.Place.{Place}
 use Rattle.cell_graph.specs.declared.bounds.Bounds.{Bounds}
 use Rattle.cell_graph.specs.declared.drafts.CellDraft.{CellDraft}
 use Rattle.cell_graph.specs.Chains.{IsHeightOf}
-use Rattle.cell_graph.specs.Parts.{AreInside}
-use Rattle.cell_graph.specs.Drafts.{IsNamed, Refers, IsFar, IsFirstFar, HasNoDeep, AreSound, AreAllResolved}
+use Rattle.cell_graph.specs.Parts.{Part, AreInside}
+use Rattle.cell_graph.specs.Drafts.{IsNamed, Refers, IsFar, IsFirstFar, HasNoDeep, AreSound, AreParts, AreAllResolved}
 use Rattle.cell_graph.specs.Sides.{AreNearIfAny}
 use Rattle.cell_graph.specs.Extents.{found_at, AreArrays, HaveArrays, IsBoundsOf, AreBoundsTo, AreBounds}
 use Rattle.cell_graph.specs.Ordering.{AreOrdered}
@@ -43,6 +43,9 @@ on_order cells hs order h deep o i lt = o.all i (subst (λ n. i < n) (sym h.coun
 
 pub order_in : (cells : List CellDraft) (hs order : List ℕ) (n i : ℕ) → HaveHeights cells hs → AreOrdered hs 65 0 order → slice_get order n ≡ Some i → i < length cells
 order_in cells hs order n i h o at = subst (λ m. i < m) h.count (o.inside i (n, at)).0
+
+pub next_in : (cells : List CellDraft) (hs order : List ℕ) (n : ℕ) → HaveHeights cells hs → AreOrdered hs 65 0 order → n < length order → get_or order n 0 < length cells
+next_in cells hs order n h o lt = order_in cells hs order n (get_or order n 0) h o (slice_get-get_or order n 0 lt)
 
 -- a lower cell stands before
 pub lower_before : (hs order : List ℕ) → AreOrdered hs 65 0 order → (n m i j : ℕ) → slice_get order n ≡ Some i → slice_get order m ≡ Some j → height_in hs j < height_in hs i → m < n
@@ -80,6 +83,35 @@ children_found cells hs order n i c places found sound h o at there all to k p a
     let on = on_order cells hs order h sound.no_deep o p.cell in_p in
     let before = lower_before hs order o n on.0 i p.cell at on.1 (refers_lower cells hs h i p.cell r) in
     (to.each on.0 p.cell before on.1).least
+
+-- what a round along the order reads of its cell, and the bounds found so far
+pub record IsRound (cells : List CellDraft) (order : List ℕ) (n : ℕ) (draft : CellDraft) (places : List Place) (found : List (Option Bounds)) : Type 0 where
+  pub at : slice_get order n ≡ Some (get_or order n 0)
+  pub there : slice_get cells (get_or order n 0) ≡ Some draft
+  pub all : AreAllResolved cells draft.refs.items places
+  pub children : HaveChildren cells places found
+  pub inside : AreInside places (length found)
+  pub arrays : AreArrays places
+
+pub round_of : (cells : List CellDraft) (parts : List Part) (hs order : List ℕ) (n : ℕ) (draft : CellDraft) (part : Part) (places : List Place) (bounds found : List (Option Bounds))
+    → AreSound cells → AreParts cells parts → HaveArrays cells → HaveHeights cells hs → AreOrdered hs 65 0 order → AreBoundsTo cells order n bounds → n < length order
+    → draft ≡ get_or cells (get_or order n 0) draft → part ≡ get_or parts (get_or order n 0) part → places ≡ part.items → found ≡ bounds → IsRound cells order n draft places found
+round_of cells parts hs order n draft part places bounds found sound are arrays h o to lt is_draft is_part is_places is_found =
+    let i = get_or order n 0 in
+    let at = slice_get-get_or order n 0 lt in
+    let in_cells = next_in cells hs order n h o lt in
+    let there : slice_get cells i ≡ Some draft = slice_get-get_or cells i draft in_cells ∙ ap Some (sym is_draft) in
+    let part_there : slice_get parts i ≡ Some part = slice_get-get_or parts i part (subst (λ m. i < m) (sym are.count) in_cells) ∙ ap Some (sym is_part) in
+    let all : AreAllResolved cells draft.refs.items places = subst (λ (ps : List Place). AreAllResolved cells draft.refs.items ps) (sym is_places) (are.each i draft part there part_there) in
+    let now : AreBoundsTo cells order n found = subst (AreBoundsTo cells order n) (sym is_found) to in
+    record {
+      at = at;
+      there = there;
+      all = all;
+      children = children_found cells hs order n i draft places found sound h o at there all now;
+      inside = subst (AreInside places) (sym now.count) (part_inside cells i draft places there all);
+      arrays = part_arrays cells i draft places arrays there all;
+    }
 
 pub none_found : (cells : List CellDraft) (order : List ℕ) (n : ℕ) (found : List (Option Bounds)) → n ≡ length cells → found ≡ replicate n None → AreBoundsTo cells order 0 found
 none_found cells order n found e f = record {

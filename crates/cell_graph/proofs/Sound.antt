@@ -24,6 +24,7 @@ use Rattle.cell_graph.specs.Linked.{IsPointWithin, linked_of, plain, motion_at, 
 use Rattle.cell_graph.proofs.Bridge.{step_of, placed_of}
 use Rattle.cell_graph.specs.declared.bounds.Bounds.{Bounds}
 use Rattle.cell_graph.specs.declared.drafts.CellDraft.{CellDraft}
+use Rattle.cell_graph.specs.declared.linking.Findings.{Findings}
 use Rattle.cell_graph.specs.Bounds.{range_of}
 use Rattle.cell_graph.specs.Chains.{Leads, HasChain, IsHeightOf}
 use Rattle.cell_graph.specs.Parts.{Part, Places}
@@ -32,7 +33,7 @@ use Rattle.cell_graph.specs.Sides.{Side, Left, Low, Right, High, value, side_of,
 use Rattle.cell_graph.specs.Extents.{found_at, HaveArrays, IsBoundsOf, AreBounds}
 use Rattle.cell_graph.specs.Ordering.{AreOrdered}
 use Rattle.cell_graph.specs.Rising.{height_in, HaveHeights}
-use Rattle.cell_graph.specs.Finished.{IsBoundsHull, IsMade, AreMade, AreReached}
+use Rattle.cell_graph.specs.Finished.{IsBoundsHull, IsMade, IsExamined, AreMade, AreReached}
 use Rattle.cell_graph.proofs.Resolving.{at_too, places_refers, refers_places, leads_too}
 use Rattle.cell_graph.proofs.Widening.{least_of}
 use Rattle.cell_graph.proofs.Extending.{low_of, high_of}
@@ -441,3 +442,24 @@ is_link cells parts hs order found top kept ds name done tops = record {
 pub top_inside : (cells : List CellDraft) (name : Option (List ℕ)) (i : ℕ) → IsTop cells name i → i < length cells
 top_inside cells None i (root, only) = root.there
 top_inside cells (Some name) i named = slice_get_within cells i named.cell named.there
+
+-- what was examined, and the cells made of it
+pub done_of : (cells now : List CellDraft) (name : Option (List ℕ)) (e : Findings) (found : List (Option Bounds)) (hs : List ℕ) (ds : List CellPart) → now ≡ cells → found ≡ e.bounds.items → hs ≡ e.heights.items
+    → IsExamined now name e → AreMade cells e.parts.items found hs ds → ((i : ℕ) (c : CellDraft) → slice_get cells i ≡ Some c → AreApart (layer_keys c.layers.items)) → HaveArrays cells
+    → (x : IsExamined cells name e) × IsDone cells e.parts.items e.heights.items x.all e.bounds.items e.top e.order.items ds
+done_of cells now name e found hs ds is_now is_found are_hs examined made keys arrays =
+    let x : IsExamined cells name e = subst (λ (cs : List CellDraft). IsExamined cs name e) is_now examined in (
+      x,
+      record {
+        sound = x.sound;
+        are = x.are;
+        heights = x.heights_are;
+        ordered = x.ordered;
+        bounds = x.bounds_are;
+        reached = x.reached;
+        made = subst (λ (bs : List (Option Bounds)). AreMade cells e.parts.items bs e.heights.items ds) is_found (subst (λ (ns : List ℕ). AreMade cells e.parts.items found ns ds) are_hs made);
+        keys = keys;
+        arrays = arrays;
+        top_in = top_inside cells name e.top x.tops;
+      },
+    )

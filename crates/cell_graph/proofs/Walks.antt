@@ -2,12 +2,12 @@
 use Rattle.std.proofs.Common.{◌≡◌, ◌⊎◌, inl, inr, ℕ, zero, suc, ◌+◌, ◌<◌, ◌≤◌, List, [], ◌∷◌, ◌++◌, Some, None, length, get_or, set, slice_get, refl, sym, ◌∙◌, ap, subst, arith, true, false, Bool, length-append}
 use Rattle.std.proofs.Math.Decide.{ℕ_discrete}
 use Rattle.std.proofs.Math.ListN.{replicate}
-use Rattle.std.proofs.lemmas.List.{get_or-set_same, get_or-set_other, length-set}
+use Rattle.std.proofs.lemmas.List.{get_or-set_same, get_or-set_other, length-set, length-replicate}
 use Rattle.std.proofs.lemmas.List.Sums.{sum_by-set}
 use Rattle.std.proofs.lemmas.Option.{slice_get_within, slice_get-get_or}
 use Rattle.cell_graph.specs.declared.cells.Place.{Place}
 use Rattle.cell_graph.specs.Chains.{Leads}
-use Rattle.cell_graph.specs.Parts.{Part, IsAmong, Places}
+use Rattle.cell_graph.specs.Parts.{Part, IsAmong, Places, AreInside, AreResolved}
 use Rattle.cell_graph.specs.Marking.{IsMarked, IsOn, IsAmongFirst, AddsMarks, IsWalk, AreMarked, unmarked, one_if_free}
 
 pub on_left : (s t : List ℕ) (j : ℕ) → IsOn s j → IsOn (s ++ t) j
@@ -130,12 +130,26 @@ part_is parts i j part there r =
     let same : r.part ≡ part = (let g : Some r.part ≡ Some part = sym r.there ∙ there in cc) in
     subst (λ (c : Part). IsAmong c.items j) same r.among
 
-pub walk_begins : (parts : List Part) (start : ℕ) (part : Part) (m m1 : List Bool) (s1 : List ℕ) → slice_get parts start ≡ Some part → length m ≡ length parts
-    → ((i : ℕ) → IsMarked m i → ⊥) → AddsMarks (IsAmong part.items) m m1 [] s1 → IsWalk parts start m1 s1
-walk_begins parts start part m m1 s1 there count none a =
+pub none_yet : (n i : ℕ) → IsMarked (replicate n false) i → ⊥
+none_yet zero i e = let f : false ≡ true = e in cc
+none_yet (suc n) zero e = let f : false ≡ true = e in cc
+none_yet (suc n) (suc i) e = none_yet n i e
+
+-- a part that was read
+pub part_read : (parts : List Part) (i : ℕ) (part : Part) → i < length parts → part ≡ get_or parts i part → slice_get parts i ≡ Some part
+part_read parts i part lt is = slice_get-get_or parts i part lt ∙ ap Some (sym is)
+
+pub places_inside : (parts : List Part) (i : ℕ) (part : Part) (places : List Place) (n : ℕ) → AreResolved parts → i < length parts → part ≡ get_or parts i part → places ≡ part.items → n ≡ length parts
+    → AreInside places n
+places_inside parts i part places n h lt is are count = rw (are, count) (h.inside i part (part_read parts i part lt is))
+
+pub walk_begins : (parts : List Part) (start : ℕ) (part : Part) (m m1 : List Bool) (s1 : List ℕ) → slice_get parts start ≡ Some part → m ≡ replicate (length parts) false
+    → AddsMarks (IsAmong part.items) m m1 [] s1 → IsWalk parts start m1 s1
+walk_begins parts start part m m1 s1 there fresh a =
+    let none : (i : ℕ) → IsMarked m i → ⊥ = λ i h. none_yet (length parts) i (subst (λ (xs : List Bool). IsMarked xs i) fresh h) in
     let place : (j : ℕ) → IsAmong part.items j → Places parts start j = λ j h. record { part = part; there = there; among = h } in
     record {
-      count = a.count ∙ count;
+      count = a.count ∙ ap length fresh ∙ length-replicate (length parts) false;
       below = λ i h. elim (a.fresh i h) [ inl x ↦ absurd (none i x) | inr x ↦ (0, (i, place i x.0, refl)) ];
       noted = λ i h. elim (a.fresh i h) [ inl x ↦ absurd (none i x) | inr x ↦ inl x.1 ];
       first = λ j r. a.here j (part_is parts start j part there r);
@@ -182,11 +196,6 @@ walk_ends parts start m s e w0 =
       count = w.count;
       exact = λ i. (w.below i, (λ (n, (c, r, l)). along parts start m w n c i (w.first c r) l));
     }
-
-pub none_yet : (n i : ℕ) → IsMarked (replicate n false) i → ⊥
-none_yet zero i e = let f : false ≡ true = e in cc
-none_yet (suc n) zero e = let f : false ≡ true = e in cc
-none_yet (suc n) (suc i) e = none_yet n i e
 
 -- what stands last on the stack is a cell
 pub next_inside : (parts : List Part) (start next : ℕ) (m : List Bool) (s rest : List ℕ) → s ≡ rest ++ next ∷ [] → IsWalk parts start m s → next < length parts

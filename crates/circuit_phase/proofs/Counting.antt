@@ -1,13 +1,21 @@
 -- Nets numbered one by one.
-use Rattle.std.proofs.Common.{◌≡◌, ◌⊎◌, inl, inr, ℕ, zero, suc, ◌<◌, ◌==◌, Bool, true, false, List, [], ◌∷◌, ◌++◌, Option, Some, None, slice_get, slice_set, length, refl, sym, ◌∙◌, ap, subst, arith}
+use Rattle.std.proofs.Common.{◌≡◌, ◌⊎◌, inl, inr, ℕ, zero, suc, ◌<◌, ◌==◌, Bool, true, false, List, [], ◌∷◌, ◌++◌, Option, Some, None, get_or, slice_get, slice_set, length, refl, sym, ◌∙◌, ap, subst, arith}
 use Rattle.std.specs.Prelude.{if◌then◌else◌}
 use Rattle.std.proofs.Math.Decide.{ℕ_discrete}
 use Rattle.std.proofs.lemmas.Bool.{eq-eqb, eqb-true, cases_Bool, or_cases, or_right, or_left, false≢true}
-use Rattle.std.proofs.lemmas.Option.{same_Some, slice_get_within, none-some}
+use Rattle.std.proofs.lemmas.Option.{same_Some, slice_get_within, slice_get-get_or, none-some}
 use Rattle.plain_netlist.proofs.Members.{position}
 use Rattle.plain_netlist.specs.Lists.{AreApart}
-use Rattle.circuit_phase.specs.Numbered.{AreNumbers}
-use Rattle.circuit_phase.specs.Numbering.{has_net, with_net}
+use Rattle.circuit_phase.specs.Numbered.{AreNumbers, numbered_seen}
+use Rattle.circuit_phase.specs.Numbering.{Numbered, has_net, with_net}
+use Rattle.circuit_phase.specs.declared.numbering.Numbering.TheInside.{Inside}
+
+-- what was read of a net's number
+pub number_at : (a : Inside) (z : Numbered) (net : ℕ) (read is : Option ℕ) → numbered_seen a ≡ z → net < z.count → read ≡ get_or a.numbers.items net read → read ≡ is
+    → slice_get a.numbers.items net ≡ Some is
+number_at a z net read is seen lt at e =
+    let within : net < length a.numbers.items = subst (λ (v : Numbered). net < v.count) (sym seen) lt in
+    slice_get-get_or a.numbers.items net read within ∙ ap (λ (o : Option ℕ). Some o) (sym at ∙ e)
 
 found : (nets : List ℕ) (x i : ℕ) → slice_get nets i ≡ Some x → has_net nets x ≡ true
 found [] x i h = absurd (none-some x h)

@@ -90,7 +90,8 @@ pub record IsAtWork (d : Linked) (r : Rules) (unit : ℕ) (nets : List (Option C
   pub inputs : (i : ℕ) → Waits graph job i → may i
   pub right : (i : ℕ) → Waits graph job i → IsSomeAnd (value i) (IsCellCircuit unit (plain d) r (upward_cell d i))
 
-module _ (d : Linked) (r : Rules) (unit : ℕ) (nets : List (Option CellNets)) (gates : List (Option CellGates)) (pins : List (Option CellPins)) (circuits numbers jobs : List ℕ) (graph : List (List ℕ)) (job cell : ℕ) (may : ℕ → Type 0) (value : ℕ → Option CellCircuit) (at : IsAtWork d r unit nets gates pins circuits numbers jobs graph job cell may value) where
+module _ {d : Linked} {r : Rules} {unit : ℕ} {nets : List (Option CellNets)} {gates : List (Option CellGates)} {pins : List (Option CellPins)} {circuits numbers jobs : List ℕ} {graph : List (List ℕ)} {job cell : ℕ} {may : ℕ → Type 0} {value : ℕ → Option CellCircuit}
+    (at : IsAtWork d r unit nets gates pins circuits numbers jobs graph job cell may value) where
   abbrev s : Tables
   s = tables_with at.sources.0 (nets_at nets)
 
@@ -221,10 +222,11 @@ module _ (d : Linked) (r : Rules) (unit : ℕ) (nets : List (Option CellNets)) (
           let done = completed (plain d) (wiring_of r) (nets_at nets) at.sources.0 of (pins_of pins) read drawn circuits cell (map plain_gate l) v.drawn.items (device_rules r) unit c h.1 is here (same drawn below) nets_right (over drawn below) (known drawn below) n h.0 in
           (n, m, done.0, done.1)
 
-pub at_work : (a : Inside) → IsCircuitPhase a → (z : CircuitJobs) → jobs_seen a ≡ z → IsSound a.design.now → (job cell : ℕ) → job < length z.graph → cell ≡ slice_index a.design.now.order job → (circuits numbers jobs : List ℕ) → circuits ≡ a.circuits.cells.items → numbers ≡ a.circuits.numbers.items → jobs ≡ a.jobs.items
-    → (may : ℕ → Type 0) (value : ℕ → Option CellCircuit) → ((i : ℕ) → Waits z.graph job i → may i) → ((i : ℕ) → Waits z.graph job i → IsSomeAnd (value i) (IsCellCircuit z.unit (plain z.design) (rules_seen z.rules) (upward_cell z.design i)))
+pub at_work : {a : Inside} {z : CircuitJobs} {job cell : ℕ} {circuits numbers jobs : List ℕ} → IsCircuitPhase a → jobs_seen a ≡ z → IsSound a.design.now → job < length z.graph → cell ≡ slice_index a.design.now.order job
+    → circuits ≡ a.circuits.cells.items → numbers ≡ a.circuits.numbers.items → jobs ≡ a.jobs.items → (may : ℕ → Type 0) (value : ℕ → Option CellCircuit) → ((i : ℕ) → Waits z.graph job i → may i)
+    → ((i : ℕ) → Waits z.graph job i → IsSomeAnd (value i) (IsCellCircuit z.unit (plain z.design) (rules_seen z.rules) (upward_cell z.design i)))
     → IsAtWork a.design.now (rules_seen a.rules.now) a.unit_pm a.nets.now a.gates.now a.pins.now circuits numbers jobs a.graph job cell may value
-at_work a inv z seen sound job cell lt is circuits numbers jobs c n j may value inputs right = record {
+at_work {a} {z} {job} {cell} {circuits} {numbers} {jobs} inv seen sound lt is c n j may value inputs right = record {
   sound = sound;
   job_in = subst (λ k. job < k) (ap (λ (x : CircuitJobs). length x.graph) (sym seen) ∙ inv.graph.jobs) lt;
   is = is;

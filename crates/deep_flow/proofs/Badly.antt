@@ -4,6 +4,7 @@ use Rattle.std.proofs.lemmas.Grind.{flat_map-append}
 use Rattle.std.proofs.lemmas.List.{append-nil, length-map, map-append, take_all, take_more}
 use Rattle.std.proofs.lemmas.Option.{slice_get-map, slice_get_within}
 use Rattle.std.specs.List.{flat_map}
+use Rattle.cell_graph.specs.Linked.{IsSound, Linked, plain}
 use Rattle.deep_tables.proofs.Together.{right_gates}
 use Rattle.deep_tables.specs.Entries.{entry}
 use Rattle.deep_tables.specs.Gates.{AreGates, gates_of, list_of, plain_gate, plain_state}
@@ -55,6 +56,10 @@ many_rules r =
     omega (arith, rules, classes, a, b, e, f)
 
 -- over right nets each gate of a cell's list has a rule of the rule set
+-- the cells of the order that was read are reached
+pub reached_in : (d : Linked) (order : List ℕ) (n : ℕ) → IsSound d → order ≡ d.order → n < length order → IsReached (plain d) (get_or order n 0)
+reached_in d order n sound same lt = subst (λ c. IsReached (plain d) c) (sym (ap (λ (o : List ℕ). get_or o n 0) same)) (sound.order.reached n (subst (λ (o : List ℕ). n < length o) same lt))
+
 pub have_rules : (d : Design) (r : Rules) (t : Tables) (table : List (Option CellGates)) (cell : ℕ) (l : List Gate) → AreRightNets d (wiring_of r) t → AreGates d r table → IsReached d cell → list_of (entry table cell) ≡ Some l → HaveRules (device_count r) l
 have_rules d r t table cell l nets right reached read i x there =
     let all = subst (λ (v : List GateEntry). flat.AreGates d (wiring_of r) t (device_rules r) cell v) (gates_read table cell l read) (right_gates d r t table nets right cell reached) in

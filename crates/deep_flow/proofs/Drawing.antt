@@ -34,6 +34,7 @@ use Rattle.table_laws.proofs.Drawing.{drawn_together}
 use Rattle.table_laws.proofs.Sound.{extracted_good, extracted_sound}
 use Rattle.table_laws.proofs.Tabled.{reached_under}
 use Rattle.circuit_phase.specs.Phase.{HasOwn}
+use Rattle.deep_flow.specs.declared.gates.Gated.{Gated}
 use Rattle.deep_flow.specs.Extracted.{HaveFewNets, IsNetlistOfCells}
 
 -- right layers and nets give the squares that cells hold themselves, and right nets over them
@@ -57,26 +58,27 @@ pub record AreFilled (unit : ℕ) (d : Linked) (r : Rules) (f : Filled) : Type 0
   pub all : AreAllTables unit (plain d) r f.layers f.nets f.gates f.pins f.circuits
   pub cells_are : AreCircuitCells (plain d) (height_at d) (gates_of f.gates) f.cells
 
-pub filled : (unit : ℕ) (d : Linked) (r : Rules) (f : Filled) → IsSound d → AreLayers (plain d) r f.layers → AreNets (plain d) r f.nets → AreGates (plain d) r f.gates → ArePins (plain d) r f.pins → AreCircuits unit (plain d) r f.circuits
-    → ((level : ℕ → ℕ) → IsOrder (plain d) level d.order → AreCircuitCells (plain d) level (gates_of f.gates) f.cells) → AreFilled unit d r f
-filled unit d r f sound layers nets gates pins circuits cells = record {
+pub filled : (unit : ℕ) (d : Linked) (r : Rules) (a : Gated) (pins : List (Option CellPins)) (circuits : List (Option CellCircuit)) (cells : List ℕ) → IsSound d → AreLayers (plain d) r a.layers → AreNets (plain d) r a.nets
+    → AreGates (plain d) r a.gates → ArePins (plain d) r pins → AreCircuits unit (plain d) r circuits → ((level : ℕ → ℕ) → IsOrder (plain d) level d.order → AreCircuitCells (plain d) level (gates_of a.gates) cells)
+    → AreFilled unit d r (record { layers = a.layers; nets = a.nets; gates = a.gates; pins = pins; circuits = circuits; cells = cells })
+filled unit d r a pins circuits cells sound layers nets gates are_pins are_circuits are_cells = record {
   sound = sound;
-  all = record { are_layers = layers; are_nets = nets; are_gates = gates; are_pins = pins; are_circuits = circuits };
-  cells_are = cells (height_at d) (order d sound);
+  all = record { are_layers = layers; are_nets = nets; are_gates = gates; are_pins = are_pins; are_circuits = are_circuits };
+  cells_are = are_cells (height_at d) (order d sound);
 }
 
 -- the cells are reached, and among them is the top
 reached_at : (unit : ℕ) (d : Linked) (r : Rules) (f : Filled) → AreFilled unit d r f → (k cell : ℕ) → IsCircuitCell f.cells k cell → IsReached (plain d) cell
 reached_at unit d r f h k cell at = ((h.cells_are.each cell).0 (listed f.cells k cell at)).0
 
-pub top_listed : (unit : ℕ) (d : Linked) (r : Rules) (f : Filled) → AreFilled unit d r f → (lent : List ℕ) (top : ℕ) → lent ≡ f.cells → top ≡ d.top → IsListed top lent
-top_listed unit d r f h lent top same is =
+pub top_listed : {unit : ℕ} {d : Linked} {r : Rules} {f : Filled} → AreFilled unit d r f → (lent : List ℕ) (top : ℕ) → lent ≡ f.cells → top ≡ d.top → IsListed top lent
+top_listed {unit} {d} {r} {f} h lent top same is =
     subst (λ (l : List ℕ). IsListed top l) (sym same)
     (subst (λ (x : ℕ). IsListed x f.cells) (sym is) ((h.cells_are.each d.top).1 (record { path = []; leads = refl }, inl refl)))
 
 -- each of them has its entry, and in it its circuit
-pub entry_there : (unit : ℕ) (d : Linked) (r : Rules) (f : Filled) → AreFilled unit d r f → (lent : List ℕ) → lent ≡ f.cells → (k cell : ℕ) → slice_get lent k ≡ Some cell → IsSome (entry f.circuits cell)
-entry_there unit d r f h lent same k cell at =
+pub entry_there : {unit : ℕ} {d : Linked} {r : Rules} {f : Filled} → AreFilled unit d r f → (lent : List ℕ) → lent ≡ f.cells → (k cell : ℕ) → slice_get lent k ≡ Some cell → IsSome (entry f.circuits cell)
+entry_there {unit} {d} {r} {f} h lent same k cell at =
     some_at (IsCellCircuit unit (plain d) r cell) (entry f.circuits cell) (h.all.are_circuits cell (reached_at unit d r f h k cell (subst (λ (l : List ℕ). slice_get l k ≡ Some cell) same at)))
 
 -- (the wheres down to by_itself are those of deep_tables' all_tables)
@@ -116,8 +118,8 @@ has_circuit unit d r f h k cell at =
     some None none = absurd (none (listed f.cells k cell at))
     some (Some c) is = refl
 
-pub circuit_there : (unit : ℕ) (d : Linked) (r : Rules) (f : Filled) → AreFilled unit d r f → (lent : List ℕ) → lent ≡ f.cells → (k cell : ℕ) → slice_get lent k ≡ Some cell → IsSome (value_of f.circuits cell).circuit
-circuit_there unit d r f h lent same k cell at = has_circuit unit d r f h k cell (subst (λ (l : List ℕ). slice_get l k ≡ Some cell) same at)
+pub circuit_there : {unit : ℕ} {d : Linked} {r : Rules} {f : Filled} → AreFilled unit d r f → (lent : List ℕ) → lent ≡ f.cells → (k cell : ℕ) → slice_get lent k ≡ Some cell → IsSome (value_of f.circuits cell).circuit
+circuit_there {unit} {d} {r} {f} h lent same k cell at = has_circuit unit d r f h k cell (subst (λ (l : List ℕ). slice_get l k ≡ Some cell) same at)
 
 -- the circuits of these cells are the layout's netlist
 together : (unit : ℕ) (d : Linked) (r : Rules) (f : Filled) → AreFilled unit d r f → (lent : List ℕ) → lent ≡ f.cells → (nl : netlist.Netlist) → IsNetlistIn f.circuits lent nl
@@ -125,9 +127,9 @@ together : (unit : ℕ) (d : Linked) (r : Rules) (f : Filled) → AreFilled unit
 together unit d r f h lent same nl are =
     all_tables unit d r f.layers f.nets f.gates f.pins f.circuits (height_at d) f.cells nl h.sound (levels d h.sound) h.all h.cells_are (subst (λ (l : List ℕ). IsNetlistIn f.circuits l nl) same are)
 
-pub is_netlist : (unit : ℕ) (d : Linked) (r : Rules) (f : Filled) → AreFilled unit d r f → (lent : List ℕ) → lent ≡ f.cells → (nl : netlist.Netlist) → IsNetlistIn f.circuits lent nl → (place top : ℕ) → IsCircuitCell lent place top → top ≡ d.top
+pub is_netlist : {unit : ℕ} {d : Linked} {r : Rules} {f : Filled} → AreFilled unit d r f → (lent : List ℕ) → lent ≡ f.cells → (nl : netlist.Netlist) → IsNetlistIn f.circuits lent nl → (place top : ℕ) → IsCircuitCell lent place top → top ≡ d.top
     → IsNetlistOfCells unit d r f.layers f.nets f.gates f.pins nl place
-is_netlist unit d r f h lent same nl are place top at is =
+is_netlist {unit} {d} {r} {f} h lent same nl are place top at is =
     let right = together unit d r f h lent same nl are in
     record {
       tables = circuit_tables f.gates f.pins f.circuits f.cells right.0;
@@ -137,13 +139,13 @@ is_netlist unit d r f h lent same nl are place top at is =
       top_is = subst (λ (l : List ℕ). IsCircuitCell l place d.top) same (subst (λ (x : ℕ). IsCircuitCell lent place x) is at);
     }
 
-pub is_sound : (unit : ℕ) (d : Linked) (r : Rules) (f : Filled) → AreFilled unit d r f → (lent : List ℕ) → lent ≡ f.cells → (nl : netlist.Netlist) → IsNetlistIn f.circuits lent nl → length f.cells < 2 ^ 32 → HaveFewNets f.circuits lent → IsSoundNetlist nl
-is_sound unit d r f h lent same nl are few short =
+pub is_sound : {unit : ℕ} {d : Linked} {r : Rules} {f : Filled} → AreFilled unit d r f → (lent : List ℕ) → lent ≡ f.cells → (nl : netlist.Netlist) → IsNetlistIn f.circuits lent nl → length f.cells < 2 ^ 32 → HaveFewNets f.circuits lent → IsSoundNetlist nl
+is_sound {unit} {d} {r} {f} h lent same nl are few short =
     let right = together unit d r f h lent same nl are in
     extracted_sound (plain d) (wiring_of r) (tables_of r f.layers f.nets) (circuit_tables f.gates f.pins f.circuits f.cells right.0) nl (device_rules r) unit (height_at d) right.1 few
     (subst (λ (l : List ℕ). HaveFewNets f.circuits l) same short)
 
-pub is_normal : (unit : ℕ) (d : Linked) (r : Rules) (f : Filled) → AreFilled unit d r f → (lent : List ℕ) → lent ≡ f.cells → (nl : netlist.Netlist) → IsNetlistIn f.circuits lent nl → IsNormalNetlist nl
-is_normal unit d r f h lent same nl are =
+pub is_normal : {unit : ℕ} {d : Linked} {r : Rules} {f : Filled} → AreFilled unit d r f → (lent : List ℕ) → lent ≡ f.cells → (nl : netlist.Netlist) → IsNetlistIn f.circuits lent nl → IsNormalNetlist nl
+is_normal {unit} {d} {r} {f} h lent same nl are =
     let right = together unit d r f h lent same nl are in
     (extracted_good (plain d) (wiring_of r) (tables_of r f.layers f.nets) (circuit_tables f.gates f.pins f.circuits f.cells right.0) nl (device_rules r) unit (height_at d) right.1).1

@@ -16,7 +16,7 @@ use Rattle.gate_shapes.specs.Sets.{in_set}
 use Rattle.gate_shapes.specs.Shapes.{AreKept, IsGood, sheets_of}
 use Rattle.gate_shapes.specs.declared.shape.GateForm.{GateForm}
 use Rattle.gate_shapes.proofs.Joined.{edge_back, walk}
-use Rattle.gate_shapes.proofs.Judging.{good_law}
+use Rattle.gate_shapes.proofs.Judging.{AreJudged, good_law}
 use Rattle.gate_shapes.proofs.PartsOf.{least_of, one_least}
 use Rattle.gate_shapes.proofs.Strips.{one_has, has_one, two_have, has_first, has_second}
 
@@ -128,7 +128,16 @@ module _ (a b : Rect) (good_a : IsRect a) (good_b : IsRect b) (apart : (p q : Sq
       → AllOn (in_set part) (in_set on_gate) → AllOn (in_set (a ∷ [])) (in_set on_ends) → AllOn (in_set (b ∷ [])) (in_set on_ends) → (loose ≡ true → AllOn (in_set part) (in_set on_bulk))
       → IsGood (sheets_of ends on_ends on_gate on_bulk loose) (in_set part) f
   two_ends part ends on_ends on_gate on_bulk loose f beside border before some es ed gate source drain bulk =
-      good_law part ends both both groups places beside border.touched (two_parts before) both_kept 0 1 refl (a ∷ []) (b ∷ []) refl refl on_ends on_gate on_bulk loose f.twice_w f.twice_l border.wide border.long
+      let they : AreJudged part ends both both groups places 0 1 (a ∷ []) (b ∷ []) = record {
+        beside = beside;
+        touching = border.touched;
+        are = two_parts before;
+        hold = both_kept;
+        is = refl;
+        at_i = refl;
+        at_j = refl;
+      } in
+      good_law they on_ends on_gate on_bulk loose f.twice_w f.twice_l border.wide border.long
       f.source f.drain (gate, (source, drain), bulk, some)
       (subst (λ (s : Square). IsLeast (in_set (a ∷ [])) s) (sym es) (least_one a good_a))
       (subst (λ (s : Square). IsLeast (in_set (b ∷ [])) s) (sym ed) (least_one b good_b))

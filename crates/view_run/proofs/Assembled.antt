@@ -67,7 +67,7 @@ top_compared r nl m top e lt =
 
 -- ---- what is compared can be
 
-module _ (r : Rules) (nl other : Netlist) (b : Both) (both : AreCompared r nl other b) where
+module _ {r : Rules} {nl other : Netlist} {b : Both} (both : AreCompared r nl other b) where
   pub layout_alignable : CombinedAlignableLaw → IsAlignable nl → IsAlignable (plain_netlist b.layout)
   layout_alignable law h = subst (λ (n : Netlist). IsAlignable n) (sym both.layout_is) (compared_alignable r nl law h)
 

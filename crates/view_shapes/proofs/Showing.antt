@@ -1,5 +1,5 @@
 -- What is shown of a cell's wanted nets, conductor after conductor and placement after placement.
-use Rattle.std.proofs.Common.{◌≡◌, ◌⊎◌, ◌↔◌, inl, inr, ℕ, ◌+◌, ◌<◌, Bool, true, false, not, ◌&&◌, List, [], ◌∷◌, Some, slice_get, get_or, length, refl, sym, ap, ◌∙◌, subst, arith}
+use Rattle.std.proofs.Common.{◌≡◌, ◌⊎◌, ◌↔◌, inl, inr, ℕ, ◌+◌, ◌<◌, ◌≤◌, Bool, true, false, not, ◌&&◌, List, [], ◌∷◌, Some, slice_get, get_or, length, map, refl, sym, ap, ◌∙◌, subst, arith}
 use Rattle.std.proofs.Math.Decide.{ℕ_discrete}
 use Rattle.std.proofs.lemmas.Bool.{false≢true}
 use Rattle.std.proofs.lemmas.Int.{ints}
@@ -11,12 +11,15 @@ use Rattle.flat_layout.specs.Nets.{Item, Own, Child, Global, Tables, ItemHolds, 
 use Rattle.flat_layout.specs.Plane.{IsIn}
 use Rattle.flat_layout.specs.Regions.{Wiring, At}
 use Rattle.geo_base.specs.declared.shapes.Square.{Square}
-use Rattle.net_link_laws.proofs.Held.{no_square, own_held, own_holds, child_held_at, child_holds, square_below}
+use Rattle.net_link_laws.proofs.Held.{no_square, own_held, own_holds, child_held_at, child_holds, square_below, under_placed}
 use Rattle.net_link_laws.proofs.Standing.{own_place, child_place}
 use Rattle.net_link_laws.specs.Collected.{IsInNet}
+use Rattle.net_link_laws.specs.Laws.{AreNetsUnder}
 use Rattle.net_link_laws.specs.Places.{owned_before, nets_before, places_of}
-use Rattle.net_walk.proofs.Walking.{IsAmong, IsNext, among_more, net_at, at_net, child_fits}
+use Rattle.net_walk.proofs.Walking.{IsAmong, IsNext, among_more, net_at, at_net, as_long, child_fits, element_at, no_element}
 use Rattle.net_walk.specs.Held.{IsMarked}
+use Rattle.net_walk.specs.Walk.{place_of}
+use Rattle.net_walk.specs.declared.cells.Element.{Element}
 use Rattle.view_laws.specs.Shown.{Called, IsShown, NetShows}
 use Rattle.view_shapes.proofs.Adding.{added_none, added_both, added_as}
 use Rattle.view_shapes.specs.Pieces.{IsOver, AreNear, AreListed, AddsPieces, IsOfOwn, IsOfOwnAt, IsOfMoved}
@@ -256,3 +259,36 @@ module _ (d : Design) (w : Wiring) (t : Tables) (cell : ℕ) (nets : AreNets d w
         let s : NetShows d t called cell x (At c q) = k.1 in
         (h.over c x q).1 (inr (record { marked = marked; item = s.item; in_net = (s.index, s.is_of); among = all_among c x q s.item (s.index, s.is_of) s.holds; shown = s.shown; holds = s.holds }))),
   )
+
+-- placement k, whose cell has its nets, which have room among the parent's
+pub record IsChild (d : Design) (w : Wiring) (t : Tables) (cell k : ℕ) (p : Place) : Type 0 where
+  pub nets : AreNets d w t cell (t.nets cell)
+  pub there : slice_get (places_of d cell) k ≡ Some p
+  pub placed : IsPlaced d cell k p
+  pub under : AreNetsUnder d w t p.cell
+  pub nets_too : AreNets d w t p.cell (t.nets p.cell)
+  pub fits : (owned_before t cell (length w.conductors) + nets_before t (places_of d cell) k) + (t.nets p.cell).count
+      ≤ length (t.nets cell).net_of
+
+module _ (d : Design) (w : Wiring) (t : Tables) (cell k : ℕ) (es : List Element) (are : AreNetsUnder d w t cell)
+    (all : map place_of es ≡ places_of d cell) where
+  pub child_at : k < length es → IsChild d w t cell k (place_of (get_or es k no_element))
+  child_at lt =
+      let p : Place = place_of (get_or es k no_element) in
+      let nets = are cell ([], refl) in
+      let there = element_at es (places_of d cell) k all lt in
+      let placed = placed_at d cell k p there in
+      let under = under_placed d w t cell k p placed are in record {
+        nets = nets;
+        there = there;
+        placed = placed;
+        under = under;
+        nets_too = under p.cell ([], refl);
+        fits = child_fits d w t cell nets k p there;
+      }
+
+  pub shown_there : (called : Called) (wanted : List Bool) (out : List Piece) → k ≡ length es
+      → AddsPieces (IsSoFar d t called cell wanted (IsBefore k)) [] out → (c x : ℕ) (q : Square) → IsOver out c x q ↔ IsShownWanted d t called cell wanted c x q
+  shown_there called wanted out end h =
+      all_shown_there d w t cell (are cell ([], refl)) called wanted out
+      (subst (λ (n : ℕ). AddsPieces (IsSoFar d t called cell wanted (IsBefore n)) [] out) (end ∙ as_long es (places_of d cell) all) h)

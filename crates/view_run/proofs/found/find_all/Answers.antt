@@ -1,5 +1,5 @@
 use Rattle.rule_text.specs.Seen.{rules_seen}
-use Rattle.deep_flow.proofs.Drawing.{Filled, filled, has_own}
+use Rattle.deep_flow.proofs.Drawing.{filled, has_own}
 use Rattle.view_run.proofs.found.find_all.Goals as goal
 
 pub find_circuits-requires-clause-own : goal.find_circuits-requires-clause-own
@@ -14,8 +14,8 @@ returns g c =
     let a = c.in_ok-found.found.gated in
     let made = c.in_ok-found.ensures in
     let drawn = c.in_ok-drawn.ensures in
-    let f : Filled = record { layers = a.layers; nets = a.nets; gates = a.gates; pins = c.in_ok-found.found.pins; circuits = c.in_ok-circuits.circuits; cells = c.in_ok-cells.cells.items } in
-    let h = filled l.header.unit_pm l.design r f c.sound.ensures made.layers made.nets made.gates made.pins c.in_ok-circuits.ensures c.in_ok-cells.ensures in
+    let h = filled l.header.unit_pm l.design r a c.in_ok-found.found.pins c.in_ok-circuits.circuits c.in_ok-cells.cells.items c.sound.ensures made.layers made.nets made.gates made.pins
+    c.in_ok-circuits.ensures c.in_ok-cells.ensures in
     record {
       cells = record { tables = h.all; cells = h.cells_are };
       of_cells = drawn.netlist;

@@ -1,4 +1,4 @@
-use Rattle.std.proofs.Common.{◌≡◌, ◌<◌, ◌∙◌, ℕ, Err, IfOk, List, [], Result, ap, length, subst, sym}
+use Rattle.std.proofs.Common.{◌≡◌, ◌<◌, ◌∙◌, ℕ, Err, List, [], Result, ap, length, subst, sym}
 use Rattle.std.proofs.lemmas.List.{length-map}
 use Rattle.std.proofs.lemmas.Result.{err_from_is_err_and}
 use Rattle.std.specs.List.{All}
@@ -21,7 +21,7 @@ use Rattle.view_drawing.specs.Devices.{areas_of}
 use Rattle.view_labels.specs.Labels.{numbers_of}
 use Rattle.view_picture.proofs.Listed.{regions_listed}
 use Rattle.view_run.specs.Far.{Aligned, HasFarBy, Written}
-use Rattle.view_run.specs.Sketched.{AreSketched, IsJoinedBy, IsSketchOf}
+use Rattle.view_run.specs.Sketched.{IsSketchOf}
 use Rattle.view_run.specs.declared.drawing.Sketched.{Sketched}
 use Rattle.view_run.proofs.Pictured.{pictured}
 use Rattle.view_run.specs.Views.{ArePictured, IsPageAsked, names_of, shown_lefts, shown_rights}
@@ -32,249 +32,121 @@ use Rattle.view_run.proofs.making.view_found.Goals as goal
 
 pub as_compared-requires-clause-layout : goal.as_compared-requires-clause-layout
 as_compared-requires-clause-layout g c =
-    let l = c.args.layout.now in
-    let r = rules_seen c.args.rules.now in
-    let f = c.args.found in
-    let nl = plain_netlist f.netlist in
-    let other = plain_netlist c.args.schematic in
-    let found = c.requires.found in
-    let can = c.extracted_alignable.ensures _ _ _ _ _ _ _ _ found.of_cells.right found.sound in
+    let can = c.extracted_alignable.ensures _ _ _ _ _ _ _ _ c.requires.found.of_cells.right c.requires.found.sound in
     can.0
 
 pub compare_in_turns-requires-clause-layout : goal.compare_in_turns-requires-clause-layout
 compare_in_turns-requires-clause-layout g c κs within =
-    let l = c.args.layout.now in
-    let r = rules_seen c.args.rules.now in
-    let f = c.args.found in
-    let nl = plain_netlist f.netlist in
-    let other = plain_netlist c.args.schematic in
-    let found = c.requires.found in
-    let can = c.extracted_alignable.ensures _ _ _ _ _ _ _ _ found.of_cells.right found.sound in
-    let both = c.in_ok-both.both in
-    let is_both = c.in_ok-both.ensures.both in
-    let law = c.combined_alignable.ensures.alignable in
-    layout_alignable r nl other both is_both law can.0
+    let can = c.extracted_alignable.ensures _ _ _ _ _ _ _ _ c.requires.found.of_cells.right c.requires.found.sound in
+    layout_alignable c.in_ok-both.ensures.both c.combined_alignable.ensures.alignable can.0
 
 pub compare_in_turns-requires-clause-schematic : goal.compare_in_turns-requires-clause-schematic
 compare_in_turns-requires-clause-schematic g c κs within =
-    let l = c.args.layout.now in
-    let r = rules_seen c.args.rules.now in
-    let f = c.args.found in
-    let nl = plain_netlist f.netlist in
-    let other = plain_netlist c.args.schematic in
-    let found = c.requires.found in
-    let both = c.in_ok-both.both in
-    let is_both = c.in_ok-both.ensures.both in
-    let law = c.combined_alignable.ensures.alignable in
-    schematic_alignable r nl other both is_both law c.requires.schematic
+    schematic_alignable c.in_ok-both.ensures.both c.combined_alignable.ensures.alignable c.requires.schematic
 
 pub compare_in_turns-requires-clause-order : goal.compare_in_turns-requires-clause-order
 compare_in_turns-requires-clause-order g c κs within =
-    let l = c.args.layout.now in
-    let r = rules_seen c.args.rules.now in
-    let f = c.args.found in
-    let nl = plain_netlist f.netlist in
-    let other = plain_netlist c.args.schematic in
-    let found = c.requires.found in
-    let can = c.extracted_alignable.ensures _ _ _ _ _ _ _ _ found.of_cells.right found.sound in
-    let both = c.in_ok-both.both in
-    let is_both = c.in_ok-both.ensures.both in
-    let law = c.combined_alignable.ensures.alignable in
-    layout_ordered r nl other both is_both can.1
+    let can = c.extracted_alignable.ensures _ _ _ _ _ _ _ _ c.requires.found.of_cells.right c.requires.found.sound in
+    layout_ordered c.in_ok-both.ensures.both can.1
 
 pub compare_in_turns-requires-clause-top : goal.compare_in_turns-requires-clause-top
 compare_in_turns-requires-clause-top g c κs within =
-    let l = c.args.layout.now in
-    let r = rules_seen c.args.rules.now in
-    let f = c.args.found in
-    let nl = plain_netlist f.netlist in
-    let other = plain_netlist c.args.schematic in
-    let found = c.requires.found in
-    let both = c.in_ok-both.both in
-    let is_both = c.in_ok-both.ensures.both in
-    let law = c.combined_alignable.ensures.alignable in
-    top_of_both r nl other both is_both f.top (top_there _ _ r _ _ _ _ nl f.top found.of_cells)
+    top_of_both c.in_ok-both.ensures.both c.args.found.top (top_there _ _ _ _ _ _ _ _ _ c.requires.found.of_cells)
 
 pub joined-requires-clause-written : goal.joined-requires-clause-written
 joined-requires-clause-written g c =
-    let l = c.args.layout.now in
-    let r = rules_seen c.args.rules.now in
-    let f = c.args.found in
-    let nl = plain_netlist f.netlist in
-    let other = plain_netlist c.args.schematic in
-    let found = c.requires.found in
-    let can = c.extracted_alignable.ensures _ _ _ _ _ _ _ _ found.of_cells.right found.sound in
-    let both = c.in_ok-both.both in
-    let is_both = c.in_ok-both.ensures.both in
-    let law = c.combined_alignable.ensures.alignable in
-    (c.origins_asked.ensures.written (plain_netlist both.layout) (layout_alignable r nl other both is_both law can.0) (layout_ordered r nl other both is_both can.1)).0
+    let can = c.extracted_alignable.ensures _ _ _ _ _ _ _ _ c.requires.found.of_cells.right c.requires.found.sound in
+    (c.origins_asked.ensures.written (plain_netlist c.in_ok-both.both.layout)
+    (layout_alignable c.in_ok-both.ensures.both c.combined_alignable.ensures.alignable can.0) (layout_ordered c.in_ok-both.ensures.both can.1)).0
 
 pub joined-requires-clause-apart : goal.joined-requires-clause-apart
 joined-requires-clause-apart g c =
-    let l = c.args.layout.now in
-    let r = rules_seen c.args.rules.now in
-    let f = c.args.found in
-    let nl = plain_netlist f.netlist in
-    let other = plain_netlist c.args.schematic in
-    let found = c.requires.found in
-    let can = c.extracted_alignable.ensures _ _ _ _ _ _ _ _ found.of_cells.right found.sound in
-    let both = c.in_ok-both.both in
-    let is_both = c.in_ok-both.ensures.both in
-    let law = c.combined_alignable.ensures.alignable in
-    (c.origins_asked.ensures.written (plain_netlist both.layout) (layout_alignable r nl other both is_both law can.0) (layout_ordered r nl other both is_both can.1)).1
+    let can = c.extracted_alignable.ensures _ _ _ _ _ _ _ _ c.requires.found.of_cells.right c.requires.found.sound in
+    (c.origins_asked.ensures.written (plain_netlist c.in_ok-both.both.layout)
+    (layout_alignable c.in_ok-both.ensures.both c.combined_alignable.ensures.alignable can.0) (layout_ordered c.in_ok-both.ensures.both can.1)).1
 
 pub joined-requires-clause-shown : goal.joined-requires-clause-shown
 joined-requires-clause-shown g c =
-    let l = c.args.layout.now in
     let r = rules_seen c.args.rules.now in
-    let f = c.args.found in
-    let nl = plain_netlist f.netlist in
-    let other = plain_netlist c.args.schematic in
-    let found = c.requires.found in
-    let can = c.extracted_alignable.ensures _ _ _ _ _ _ _ _ found.of_cells.right found.sound in
+    let can = c.extracted_alignable.ensures _ _ _ _ _ _ _ _ c.requires.found.of_cells.right c.requires.found.sound in
     let both = c.in_ok-both.both in
-    let is_both = c.in_ok-both.ensures.both in
-    let law = c.combined_alignable.ensures.alignable in
-    let o = c.in_ok-turns.turns.compared in
-    let t = c.in_ok-turns.ensures in
-    let good = (c.origins_asked.ensures.written (plain_netlist both.layout) (layout_alignable r nl other both is_both law can.0) (layout_ordered r nl other both is_both can.1)).0 in
-    subst (λ (n : Netlist). IsGood n (λ k. k)) (sym c.shown_circuits-shown.ensures) (left_good (plain_netlist both.layout) f.top (plain_netlist both.schematic) t.same r.max_guesses r.tells_pins o good t.comparison)
+    let good = (c.origins_asked.ensures.written (plain_netlist both.layout)
+    (layout_alignable c.in_ok-both.ensures.both c.combined_alignable.ensures.alignable can.0) (layout_ordered c.in_ok-both.ensures.both can.1)).0 in
+    subst (λ (n : Netlist). IsGood n (λ k. k)) (sym c.shown_circuits-shown.ensures)
+    (left_good (plain_netlist both.layout) c.args.found.top (plain_netlist both.schematic) c.in_ok-turns.ensures.same r.max_guesses r.tells_pins
+    c.in_ok-turns.turns.compared good c.in_ok-turns.ensures.comparison)
 
 pub propose-requires : goal.propose-requires
 propose-requires g c =
-    let l = c.args.layout.now in
     let r = rules_seen c.args.rules.now in
-    let f = c.args.found in
-    let nl = plain_netlist f.netlist in
-    let other = plain_netlist c.args.schematic in
-    let found = c.requires.found in
-    let both = c.in_ok-both.both in
-    let is_both = c.in_ok-both.ensures.both in
-    let law = c.combined_alignable.ensures.alignable in
-    let o = c.in_ok-turns.turns.compared in
-    let t = c.in_ok-turns.ensures in
-    record { paired = all_paired (plain_netlist both.layout) f.top (plain_netlist both.schematic) t.same r.max_guesses r.tells_pins o t.comparison }
+    record {
+      paired = all_paired (plain_netlist c.in_ok-both.both.layout) c.args.found.top (plain_netlist c.in_ok-both.both.schematic)
+          c.in_ok-turns.ensures.same r.max_guesses r.tells_pins c.in_ok-turns.turns.compared c.in_ok-turns.ensures.comparison;
+    }
 
 pub write_database-requires-clause-whole : goal.write_database-requires-clause-whole
 write_database-requires-clause-whole g c =
-    let l = c.args.layout.now in
-    let r = rules_seen c.args.rules.now in
-    let f = c.args.found in
-    let nl = plain_netlist f.netlist in
-    let other = plain_netlist c.args.schematic in
-    let found = c.requires.found in
     let both = c.in_ok-both.both in
-    let is_both = c.in_ok-both.ensures.both in
-    let law = c.combined_alignable.ensures.alignable in
     let o = c.in_ok-turns.turns.compared in
-    let t = c.in_ok-turns.ensures in
     let whole = whole_lists (plain_netlist both.layout) (plain_netlist both.schematic) o _ c.in_ok-rows.ensures.whole in
-    subst (λ (ls : List (List Row)). AreWhole (shown_lefts (plain_netlist both.layout) o) (shown_rights (plain_netlist both.schematic) o) ls) (sym (ap lists_of c.deref-2.ensures.value)) whole
+    subst (λ (ls : List (List Row)). AreWhole (shown_lefts (plain_netlist both.layout) o) (shown_rights (plain_netlist both.schematic) o) ls)
+    (sym (ap lists_of c.deref-2.ensures.value)) whole
 
 pub write_database-requires-clause-ordered : goal.write_database-requires-clause-ordered
 write_database-requires-clause-ordered g c =
-    let l = c.args.layout.now in
     let r = rules_seen c.args.rules.now in
-    let f = c.args.found in
-    let nl = plain_netlist f.netlist in
-    let other = plain_netlist c.args.schematic in
-    let found = c.requires.found in
-    let both = c.in_ok-both.both in
-    let is_both = c.in_ok-both.ensures.both in
-    let law = c.combined_alignable.ensures.alignable in
-    let o = c.in_ok-turns.turns.compared in
-    let t = c.in_ok-turns.ensures in
-    shown_ordered (plain_netlist both.layout) f.top (plain_netlist both.schematic) t.same r.max_guesses r.tells_pins o (schematic_alignable r nl other both is_both law c.requires.schematic).sound t.comparison
+    shown_ordered (plain_netlist c.in_ok-both.both.layout) c.args.found.top (plain_netlist c.in_ok-both.both.schematic)
+    c.in_ok-turns.ensures.same r.max_guesses r.tells_pins c.in_ok-turns.turns.compared
+    (schematic_alignable c.in_ok-both.ensures.both c.combined_alignable.ensures.alignable c.requires.schematic).sound c.in_ok-turns.ensures.comparison
 
 pub write_database-requires-clause-cells : goal.write_database-requires-clause-cells
 write_database-requires-clause-cells g c =
-    let l = c.args.layout.now in
     let r = rules_seen c.args.rules.now in
-    let f = c.args.found in
-    let nl = plain_netlist f.netlist in
-    let other = plain_netlist c.args.schematic in
-    let found = c.requires.found in
-    subst (λ (bs : List BadGate). All (λ x. x.cell < length l.design.cells) bs) (sym c.deref-3.ensures.value) (told_inside l.design r f.cells.gated.gates f.bad.items c.sound.ensures found.told)
+    subst (λ (bs : List BadGate). All (λ x. x.cell < length c.args.layout.now.design.cells) bs) (sym c.deref-3.ensures.value)
+    (told_inside c.args.layout.now.design r c.args.found.cells.gated.gates c.args.found.bad.items c.sound.ensures c.requires.found.told)
 
 pub circuit_name-name-requires : goal.circuit_name-name-requires
 circuit_name-name-requires g c =
-    let l = c.args.layout.now in
-    let r = rules_seen c.args.rules.now in
-    let f = c.args.found in
-    let nl = plain_netlist f.netlist in
-    let other = plain_netlist c.args.schematic in
-    let found = c.requires.found in
-    let both = c.in_ok-both.both in
-    let is_both = c.in_ok-both.ensures.both in
-    let law = c.combined_alignable.ensures.alignable in
-    top_of_both r nl other both is_both f.top (top_there _ _ r _ _ _ _ nl f.top found.of_cells)
+    top_of_both c.in_ok-both.ensures.both c.args.found.top (top_there _ _ _ _ _ _ _ _ _ c.requires.found.of_cells)
 
 pub returns-in_err-both-clause-refused : goal.returns-in_err-both-clause-refused
 returns-in_err-both-clause-refused g c =
-    let l = c.args.layout.now in
     let r = rules_seen c.args.rules.now in
-    let f = c.args.found in
-    let nl = plain_netlist f.netlist in
     let other = plain_netlist c.args.schematic in
-    let found = c.requires.found in
     let e = err_from_is_err_and c.from_residual-in_err-both.result c.from_residual-in_err-both.ensures.1 in
-    rw (e.1, e.2) (not_made l r other f found _ c.in_err-both.ensures.refused)
+    rw (e.1, e.2) (not_made c.args.layout.now r other c.args.found c.requires.found _ c.in_err-both.ensures.refused)
 
 pub joined-requires-clause-inside : goal.joined-requires-clause-inside
 joined-requires-clause-inside g c =
-    let l = c.args.layout.now in
-    let r = rules_seen c.args.rules.now in
-    let f = c.args.found in
-    let nl = plain_netlist f.netlist in
-    let other = plain_netlist c.args.schematic in
-    let found = c.requires.found in
-    let both = c.in_ok-both.both in
-    let drawn = c.in-Ok.drawn in
-    let are = subst (λ (x : Result Sketched ShowFault). IfOk x (AreSketched l c.args.rules.now f.cells c.in_ok-names.names.items (plain_netlist both.layout))) c.in-Ok.is c.draw.ensures.sketched in
+    let are = rw c.in-Ok.is at c.draw.ensures.sketched in
     are.inside
 
 pub joined-requires-clause-small_regions : goal.joined-requires-clause-small_regions
 joined-requires-clause-small_regions g c =
-    let l = c.args.layout.now in
-    let r = rules_seen c.args.rules.now in
-    let f = c.args.found in
-    let nl = plain_netlist f.netlist in
-    let other = plain_netlist c.args.schematic in
-    let found = c.requires.found in
-    let both = c.in_ok-both.both in
-    let drawn = c.in-Ok.drawn in
-    let are = subst (λ (x : Result Sketched ShowFault). IfOk x (AreSketched l c.args.rules.now f.cells c.in_ok-names.names.items (plain_netlist both.layout))) c.in-Ok.is c.draw.ensures.sketched in
+    let are = rw c.in-Ok.is at c.draw.ensures.sketched in
     are.small_regions
 
 pub returns-in-Err-clause-refused : goal.returns-in-Err-clause-refused
 returns-in-Err-clause-refused g c =
-    let l = c.args.layout.now in
     let r = rules_seen c.args.rules.now in
     let f = c.args.found in
-    let nl = plain_netlist f.netlist in
     let other = plain_netlist c.args.schematic in
-    let found = c.requires.found in
-    not_drawn l r other c.in-Err.fault _ c.view_stop.ensures (λ is. Written (c.draw.ensures.far (c.in-Err.is ∙ ap (λ (f : ShowFault). let x : Result Sketched ShowFault = Err f in x) is)))
+    not_drawn c.args.layout.now r other c.in-Err.fault _ c.view_stop.ensures (λ is. Written (c.draw.ensures.far (c.in-Err.is ∙ ap (λ (f : ShowFault). let x : Result Sketched ShowFault = Err f in x) is)))
 
 pub returns-in-Err-joined-clause-refused : goal.returns-in-Err-joined-clause-refused
 returns-in-Err-joined-clause-refused g c =
     let l = c.args.layout.now in
     let r = rules_seen c.args.rules.now in
     let f = c.args.found in
-    let nl = plain_netlist f.netlist in
     let other = plain_netlist c.args.schematic in
-    let found = c.requires.found in
-    let both = c.in_ok-both.both in
-    let one = plain_netlist both.layout in
+    let one = plain_netlist c.in_ok-both.both.layout in
     let v = c.in-Ok.drawn in
-    let t = c.in_ok-turns.turns in
-    let shown = c.shown_circuits-shown in
-    let are = subst (λ (x : Result Sketched ShowFault). IfOk x (AreSketched l c.args.rules.now f.cells c.in_ok-names.names.items one)) c.in-Ok.is c.draw.ensures.sketched in
+    let are = rw c.in-Ok.is at c.draw.ensures.sketched in
     let named = subst (λ (ns : List (List ℕ)). IsSketchOf l r are.source f.cells.cells.items ns one v.sketch) c.in_ok-names.ensures are.sketch in
     not_drawn l r other c.in-Err-joined.fault _ c.view_stop-in-Err-joined.ensures (λ is.
     let by0 = c.joined.ensures.far (c.in-Err-joined.is ∙ ap (λ (g : ShowFault). let x : Result Picture ShowFault = Err g in x) is) in
-    let by = subst (λ (n : Netlist). HasFarBy one n v.sketch.drawings.items (areas_of v.sketch.regions.regions.items)) shown.ensures by0 in
-    Aligned (far_aligned l r other f found t are.source f.cells.cells.items v.sketch both c.in_ok-both.ensures.both are.are are.layers are.nets are.gates are.pins
+    let by = subst (λ (n : Netlist). HasFarBy one n v.sketch.drawings.items (areas_of v.sketch.regions.regions.items)) c.shown_circuits-shown.ensures by0 in
+    Aligned (far_aligned l r other f c.requires.found c.in_ok-turns.turns are.source f.cells.cells.items v.sketch c.in_ok-both.both c.in_ok-both.ensures.both are.are are.layers are.nets are.gates are.pins
     (record { taken = c.in_ok-turns.ensures; sketched = named; by = by })))
 
 pub returns-clause-made : goal.returns-clause-made
@@ -284,12 +156,8 @@ returns-clause-made g c =
     let f = c.args.found in
     let nl = plain_netlist f.netlist in
     let other = plain_netlist c.args.schematic in
-    let found = c.requires.found in
     let both = c.in_ok-both.both in
-    let is_both = c.in_ok-both.ensures.both in
-    let law = c.combined_alignable.ensures.alignable in
     let o = c.in_ok-turns.turns.compared in
-    let t = c.in_ok-turns.ensures in
     let p = c.in-Ok-joined.picture in
     let one = plain_netlist both.layout in
     let two = plain_netlist both.schematic in
@@ -298,8 +166,8 @@ returns-clause-made g c =
     let text = c.in_ok-text.text.items in
     let page = option_map (λ text. text.items) c.in_ok-page.page in
     let v = c.in_ok-verdict.verdict in
-    let are = subst (λ (x : Result Sketched ShowFault). IfOk x (AreSketched l c.args.rules.now f.cells c.in_ok-names.names.items one)) c.in-Ok.is c.draw.ensures.sketched in
-    let by = subst (λ (x : Result Picture ShowFault). IfOk x (IsJoinedBy l.design c.args.rules.now.names.items c.in-Ok.drawn.cells.items c.in-Ok.drawn.names.items c.in-Ok.drawn.sketch.drawings.items one (plain_netlist shown.result.now))) c.in-Ok-joined.is c.joined.ensures.picture in
+    let are = rw c.in-Ok.is at c.draw.ensures.sketched in
+    let by = rw c.in-Ok-joined.is at c.joined.ensures.picture in
     let whole = pictured l c.args.rules.now f.cells c.in_ok-names.names.items one (plain_netlist shown.result.now) c.in-Ok.drawn p are by in
     let named = subst (λ (ns : List (List ℕ)). ArePictured l r f.cells ns one (plain_netlist shown.result.now) p) c.in_ok-names.ensures whole in
     let drawn = subst (λ (n : Netlist). ArePictured l r f.cells (names_of nl) one n p) shown.ensures named in
@@ -308,19 +176,16 @@ returns-clause-made g c =
     let verdict = subst (λ (bs : List BadGate). IsRunVerdict (length bs) (all_answers o) v) c.deref.ensures.value c.in_ok-verdict.ensures in
     let circuits : c.len-circuits.result ≡ length nl.circuits = c.len-circuits.ensures ∙ (f.netlist.circuits.ok.0 ∙ sym (length-map f.netlist.circuits.items plain_circuit)) in
     let line_is = line_as c.in_ok-line.line.items v _ _ _ (length nl.circuits) (pair_count o) (length f.bad.items) circuits c.pair_count.ensures (c.len.ensures ∙ f.bad.ok.0) c.in_ok-line.ensures in
-    is_view l r other f found c.in_ok-turns.turns p rows c.args.paged text page both v c.in_ok-line.line.items is_both (record { taken = t; drawn = drawn; database = database; page_is = page_is }) verdict c.in_ok-rows.ensures.proposed line_is
+    is_view l r other f c.requires.found c.in_ok-turns.turns p rows c.args.paged text page both v c.in_ok-line.line.items c.in_ok-both.ensures.both (record { taken = c.in_ok-turns.ensures; drawn = drawn; database = database; page_is = page_is }) verdict c.in_ok-rows.ensures.proposed line_is
 
 pub joined-requires-clause-small : goal.joined-requires-clause-small
 joined-requires-clause-small g c =
-    let l = c.args.layout.now in
-    let are = subst (λ (x : Result Sketched ShowFault). IfOk x (AreSketched l c.args.rules.now c.args.found.cells c.in_ok-names.names.items (plain_netlist c.in_ok-both.both.layout))) c.in-Ok.is c.draw.ensures.sketched in
+    let are = rw c.in-Ok.is at c.draw.ensures.sketched in
     are.small
 
 pub joined-requires-clause-listed : goal.joined-requires-clause-listed
 joined-requires-clause-listed g c =
-    let l = c.args.layout.now in
-    let v = c.in-Ok.drawn in
-    let are = subst (λ (x : Result Sketched ShowFault). IfOk x (AreSketched l c.args.rules.now c.args.found.cells c.in_ok-names.names.items (plain_netlist c.in_ok-both.both.layout))) c.in-Ok.is c.draw.ensures.sketched in
-    let names = c.in_ok-names.names.items in
+    let are = rw c.in-Ok.is at c.draw.ensures.sketched in
     let written = (plain_netlist c.in_ok-both.both.layout).circuits in
-    regions_listed are.source are.sketch.nets are.sketch.called c.args.found.cells.cells.items (first_seen [] names) (numbers_of (first_seen [] names) written) written (areas_of v.sketch.regions.regions.items) v.sketch.drawings.items are.sketch.drawn.by_cells
+    regions_listed are.source are.sketch.nets are.sketch.called c.args.found.cells.cells.items (first_seen [] c.in_ok-names.names.items)
+    (numbers_of (first_seen [] c.in_ok-names.names.items) written) written (areas_of c.in-Ok.drawn.sketch.regions.regions.items) c.in-Ok.drawn.sketch.drawings.items are.sketch.drawn.by_cells

@@ -1,14 +1,12 @@
-use Rattle.std.proofs.Common.{ℕ, List, Option, sym, subst}
+use Rattle.std.proofs.Common.{List, sym, subst}
 use Rattle.std.proofs.lemmas.Result.{err_from_is_err_and}
 use Rattle.cell_graph.specs.Linked.{Linked}
-use Rattle.cell_graph.specs.declared.bounds.Bounds.{Bounds}
 use Rattle.cell_graph.specs.declared.drafts.CellDraft.{CellDraft}
 use Rattle.cell_graph.specs.Drafts.{IsFault, IsLink}
 use Rattle.cell_graph.specs.Extents.{HaveArrays}
-use Rattle.cell_graph.specs.Finished.{IsExamined, AreMade}
 use Rattle.cell_graph.specs.Tops.{now_of}
 use Rattle.cell_graph.proofs.Paths.{all_sound}
-use Rattle.cell_graph.proofs.Sound.{IsDone, is_link, top_inside}
+use Rattle.cell_graph.proofs.Sound.{is_link, done_of}
 use Rattle.cell_graph.proofs.design.Design.link.Goals as goal
 
 pub examined-requires : goal.examined-requires
@@ -23,43 +21,17 @@ pub from_parts-requires : goal.from_parts-requires
 from_parts-requires c =
     let cells = c.args.cells.items in
     let e = c.in_ok-found.found in
-    let x : IsExamined cells (now_of c.args.top) e = subst (λ (ds : List CellDraft). IsExamined ds (now_of c.args.top) e) c.deref.ensures.value (c.in_ok-found.ensures {u = tt}).found in
-    let made : AreMade cells e.parts.items e.bounds.items e.heights.items c.in_ok-made.made.items =
-    subst (λ (hs : List ℕ). AreMade cells e.parts.items e.bounds.items hs c.in_ok-made.made.items) c.deref-3.ensures.value
-    (subst (λ (bs : List (Option Bounds)). AreMade cells e.parts.items bs c.deref-3.result.now c.in_ok-made.made.items) c.deref-2.ensures.value (c.in_ok-made.ensures {u = tt})) in
-    let done : IsDone cells e.parts.items e.heights.items x.all e.bounds.items e.top e.order.items c.in_ok-made.made.items = record {
-      sound = x.sound;
-      are = x.are;
-      heights = x.heights_are;
-      ordered = x.ordered;
-      bounds = x.bounds_are;
-      reached = x.reached;
-      made = made;
-      keys = c.requires.keys;
-      arrays = c.requires.arrays;
-      top_in = top_inside cells (now_of c.args.top) e.top x.tops;
-    } in
-    all_sound cells e.parts.items e.heights.items x.all e.bounds.items e.top e.order.items c.in_ok-made.made.items done
+    let ds = c.in_ok-made.made.items in
+    let it = done_of cells c.deref.result.now (now_of c.args.top) e c.deref-2.result.now c.deref-3.result.now ds c.deref.ensures.value c.deref-2.ensures.value c.deref-3.ensures.value
+    (c.in_ok-found.ensures {u = tt}).found (c.in_ok-made.ensures {u = tt}) c.requires.keys c.requires.arrays in
+    all_sound cells e.parts.items e.heights.items it.0.all e.bounds.items e.top e.order.items ds it.1
 
 pub returns-clause-design : goal.returns-clause-design
 returns-clause-design c =
     let cells = c.args.cells.items in
     let e = c.in_ok-found.found in
-    let x : IsExamined cells (now_of c.args.top) e = subst (λ (ds : List CellDraft). IsExamined ds (now_of c.args.top) e) c.deref.ensures.value (c.in_ok-found.ensures {u = tt}).found in
-    let made : AreMade cells e.parts.items e.bounds.items e.heights.items c.in_ok-made.made.items =
-    subst (λ (hs : List ℕ). AreMade cells e.parts.items e.bounds.items hs c.in_ok-made.made.items) c.deref-3.ensures.value
-    (subst (λ (bs : List (Option Bounds)). AreMade cells e.parts.items bs c.deref-3.result.now c.in_ok-made.made.items) c.deref-2.ensures.value (c.in_ok-made.ensures {u = tt})) in
-    let done : IsDone cells e.parts.items e.heights.items x.all e.bounds.items e.top e.order.items c.in_ok-made.made.items = record {
-      sound = x.sound;
-      are = x.are;
-      heights = x.heights_are;
-      ordered = x.ordered;
-      bounds = x.bounds_are;
-      reached = x.reached;
-      made = made;
-      keys = c.requires.keys;
-      arrays = c.requires.arrays;
-      top_in = top_inside cells (now_of c.args.top) e.top x.tops;
-    } in
+    let ds = c.in_ok-made.made.items in
+    let it = done_of cells c.deref.result.now (now_of c.args.top) e c.deref-2.result.now c.deref-3.result.now ds c.deref.ensures.value c.deref-2.ensures.value c.deref-3.ensures.value
+    (c.in_ok-found.ensures {u = tt}).found (c.in_ok-made.ensures {u = tt}) c.requires.keys c.requires.arrays in
     subst (λ (d : Linked). IsLink cells (now_of c.args.top) d) (sym (c.in_ok-design.ensures {u = tt}))
-    (is_link cells e.parts.items e.heights.items x.all e.bounds.items e.top e.order.items c.in_ok-made.made.items (now_of c.args.top) done x.tops)
+    (is_link cells e.parts.items e.heights.items it.0.all e.bounds.items e.top e.order.items ds (now_of c.args.top) it.1 it.0.tops)

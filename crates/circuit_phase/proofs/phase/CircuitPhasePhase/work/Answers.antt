@@ -18,45 +18,39 @@ use Rattle.circuit_phase.proofs.phase.CircuitPhasePhase.work.Goals as goal
 
 pub drawn_marks-requires-clause-right : goal.drawn_marks-requires-clause-right
 drawn_marks-requires-clause-right g c =
-    let a = c.self.inside in
-    let cell = get_or c.order.result.now c.args.job 0 in
-    let at = at_work a c.self.invariant c.args.self.now c.self.view_is c.sound.ensures c.args.job cell c.requires.job (ap (λ (l : List ℕ). get_or l c.args.job 0) c.order.ensures) c.deref-2.result.now c.deref-3.result.now c.deref.result.now c.deref-2.ensures.value c.deref-3.ensures.value c.deref.ensures.value (g.R.Reads.may_read c.args.reads.now) (g.R.Reads.value c.args.reads.now) c.requires.inputs c.requires.right in
-    nets_over a.design.now (rules_seen a.rules.now) a.unit_pm a.nets.now a.gates.now a.pins.now c.deref-2.result.now c.deref-3.result.now c.deref.result.now a.graph c.args.job cell (g.R.Reads.may_read c.args.reads.now) (g.R.Reads.value c.args.reads.now) at c.of.result.now c.of.ensures
+    let at = at_work c.self.invariant c.self.view_is c.sound.ensures c.requires.job (ap (λ (l : List ℕ). get_or l c.args.job 0) c.order.ensures) c.deref-2.ensures.value c.deref-3.ensures.value c.deref.ensures.value
+    (g.R.Reads.may_read c.args.reads.now) (g.R.Reads.value c.args.reads.now) c.requires.inputs c.requires.right in
+    nets_over at c.of.result.now c.of.ensures
 
 pub drawn_marks-requires-clause-readable : goal.drawn_marks-requires-clause-readable
 drawn_marks-requires-clause-readable g c =
-    let a = c.self.inside in
-    let cell = get_or c.order.result.now c.args.job 0 in
-    let at = at_work a c.self.invariant c.args.self.now c.self.view_is c.sound.ensures c.args.job cell c.requires.job (ap (λ (l : List ℕ). get_or l c.args.job 0) c.order.ensures) c.deref-2.result.now c.deref-3.result.now c.deref.result.now c.deref-2.ensures.value c.deref-3.ensures.value c.deref.ensures.value (g.R.Reads.may_read c.args.reads.now) (g.R.Reads.value c.args.reads.now) c.requires.inputs c.requires.right in
-    readable a.design.now (rules_seen a.rules.now) a.unit_pm a.nets.now a.gates.now a.pins.now c.deref-2.result.now c.deref-3.result.now c.deref.result.now a.graph c.args.job cell (g.R.Reads.may_read c.args.reads.now) (g.R.Reads.value c.args.reads.now) at
+    let at = at_work c.self.invariant c.self.view_is c.sound.ensures c.requires.job (ap (λ (l : List ℕ). get_or l c.args.job 0) c.order.ensures) c.deref-2.ensures.value c.deref-3.ensures.value c.deref.ensures.value
+    (g.R.Reads.may_read c.args.reads.now) (g.R.Reads.value c.args.reads.now) c.requires.inputs c.requires.right in
+    readable at
 
 pub drawn_marks-requires-clause-terminals : goal.drawn_marks-requires-clause-terminals
 drawn_marks-requires-clause-terminals g c =
-    let a = c.self.inside in
-    let cell = get_or c.order.result.now c.args.job 0 in
-    let at = at_work a c.self.invariant c.args.self.now c.self.view_is c.sound.ensures c.args.job cell c.requires.job (ap (λ (l : List ℕ). get_or l c.args.job 0) c.order.ensures) c.deref-2.result.now c.deref-3.result.now c.deref.result.now c.deref-2.ensures.value c.deref-3.ensures.value c.deref.ensures.value (g.R.Reads.may_read c.args.reads.now) (g.R.Reads.value c.args.reads.now) c.requires.inputs c.requires.right in
-    under_count a.design.now (rules_seen a.rules.now) a.unit_pm a.nets.now a.gates.now a.pins.now c.deref-2.result.now c.deref-3.result.now c.deref.result.now a.graph c.args.job cell (g.R.Reads.may_read c.args.reads.now) (g.R.Reads.value c.args.reads.now) at c.of.result.now c.of-2.result.now c.of.ensures c.of-2.ensures
+    let at = at_work c.self.invariant c.self.view_is c.sound.ensures c.requires.job (ap (λ (l : List ℕ). get_or l c.args.job 0) c.order.ensures) c.deref-2.ensures.value c.deref-3.ensures.value c.deref.ensures.value
+    (g.R.Reads.may_read c.args.reads.now) (g.R.Reads.value c.args.reads.now) c.requires.inputs c.requires.right in
+    under_count at c.of.result.now c.of-2.result.now c.of.ensures c.of-2.ensures
 
 pub circuit_or_none-requires-clause-right : goal.circuit_or_none-requires-clause-right
 circuit_or_none-requires-clause-right g c =
-    let a = c.self.inside in
-    let cell = get_or c.order.result.now c.args.job 0 in
-    let at = at_work a c.self.invariant c.args.self.now c.self.view_is c.sound.ensures c.args.job cell c.requires.job (ap (λ (l : List ℕ). get_or l c.args.job 0) c.order.ensures) c.deref-2.result.now c.deref-3.result.now c.deref.result.now c.deref-2.ensures.value c.deref-3.ensures.value c.deref.ensures.value (g.R.Reads.may_read c.args.reads.now) (g.R.Reads.value c.args.reads.now) c.requires.inputs c.requires.right in
-    nets_over a.design.now (rules_seen a.rules.now) a.unit_pm a.nets.now a.gates.now a.pins.now c.deref-2.result.now c.deref-3.result.now c.deref.result.now a.graph c.args.job cell (g.R.Reads.may_read c.args.reads.now) (g.R.Reads.value c.args.reads.now) at c.of.result.now c.of.ensures
+    let at = at_work c.self.invariant c.self.view_is c.sound.ensures c.requires.job (ap (λ (l : List ℕ). get_or l c.args.job 0) c.order.ensures) c.deref-2.ensures.value c.deref-3.ensures.value c.deref.ensures.value
+    (g.R.Reads.may_read c.args.reads.now) (g.R.Reads.value c.args.reads.now) c.requires.inputs c.requires.right in
+    nets_over at c.of.result.now c.of.ensures
 
 pub circuit_or_none-requires-clause-readable : goal.circuit_or_none-requires-clause-readable
 circuit_or_none-requires-clause-readable g c =
-    let a = c.self.inside in
-    let cell = get_or c.order.result.now c.args.job 0 in
-    let at = at_work a c.self.invariant c.args.self.now c.self.view_is c.sound.ensures c.args.job cell c.requires.job (ap (λ (l : List ℕ). get_or l c.args.job 0) c.order.ensures) c.deref-2.result.now c.deref-3.result.now c.deref.result.now c.deref-2.ensures.value c.deref-3.ensures.value c.deref.ensures.value (g.R.Reads.may_read c.args.reads.now) (g.R.Reads.value c.args.reads.now) c.requires.inputs c.requires.right in
-    readable a.design.now (rules_seen a.rules.now) a.unit_pm a.nets.now a.gates.now a.pins.now c.deref-2.result.now c.deref-3.result.now c.deref.result.now a.graph c.args.job cell (g.R.Reads.may_read c.args.reads.now) (g.R.Reads.value c.args.reads.now) at
+    let at = at_work c.self.invariant c.self.view_is c.sound.ensures c.requires.job (ap (λ (l : List ℕ). get_or l c.args.job 0) c.order.ensures) c.deref-2.ensures.value c.deref-3.ensures.value c.deref.ensures.value
+    (g.R.Reads.may_read c.args.reads.now) (g.R.Reads.value c.args.reads.now) c.requires.inputs c.requires.right in
+    readable at
 
 pub circuit_or_none-requires-clause-terminals : goal.circuit_or_none-requires-clause-terminals
 circuit_or_none-requires-clause-terminals g c =
-    let a = c.self.inside in
-    let cell = get_or c.order.result.now c.args.job 0 in
-    let at = at_work a c.self.invariant c.args.self.now c.self.view_is c.sound.ensures c.args.job cell c.requires.job (ap (λ (l : List ℕ). get_or l c.args.job 0) c.order.ensures) c.deref-2.result.now c.deref-3.result.now c.deref.result.now c.deref-2.ensures.value c.deref-3.ensures.value c.deref.ensures.value (g.R.Reads.may_read c.args.reads.now) (g.R.Reads.value c.args.reads.now) c.requires.inputs c.requires.right in
-    under_count a.design.now (rules_seen a.rules.now) a.unit_pm a.nets.now a.gates.now a.pins.now c.deref-2.result.now c.deref-3.result.now c.deref.result.now a.graph c.args.job cell (g.R.Reads.may_read c.args.reads.now) (g.R.Reads.value c.args.reads.now) at c.of.result.now c.of-2.result.now c.of.ensures c.of-2.ensures
+    let at = at_work c.self.invariant c.self.view_is c.sound.ensures c.requires.job (ap (λ (l : List ℕ). get_or l c.args.job 0) c.order.ensures) c.deref-2.ensures.value c.deref-3.ensures.value c.deref.ensures.value
+    (g.R.Reads.may_read c.args.reads.now) (g.R.Reads.value c.args.reads.now) c.requires.inputs c.requires.right in
+    under_count at c.of.result.now c.of-2.result.now c.of.ensures c.of-2.ensures
 
 pub circuit_or_none-requires-clause-drawn : goal.circuit_or_none-requires-clause-drawn
 circuit_or_none-requires-clause-drawn g c =
@@ -66,17 +60,15 @@ circuit_or_none-requires-clause-drawn g c =
 
 pub circuit_or_none-requires-clause-name_count : goal.circuit_or_none-requires-clause-name_count
 circuit_or_none-requires-clause-name_count g c =
-    let a = c.self.inside in
-    let cell = get_or c.order.result.now c.args.job 0 in
-    let at = at_work a c.self.invariant c.args.self.now c.self.view_is c.sound.ensures c.args.job cell c.requires.job (ap (λ (l : List ℕ). get_or l c.args.job 0) c.order.ensures) c.deref-2.result.now c.deref-3.result.now c.deref.result.now c.deref-2.ensures.value c.deref-3.ensures.value c.deref.ensures.value (g.R.Reads.may_read c.args.reads.now) (g.R.Reads.value c.args.reads.now) c.requires.inputs c.requires.right in
-    (pin_counts a.design.now (rules_seen a.rules.now) a.unit_pm a.nets.now a.gates.now a.pins.now c.deref-2.result.now c.deref-3.result.now c.deref.result.now a.graph c.args.job cell (g.R.Reads.may_read c.args.reads.now) (g.R.Reads.value c.args.reads.now) at c.of.result.now c.of-3.result.now c.of.ensures c.of-3.ensures).1
+    let at = at_work c.self.invariant c.self.view_is c.sound.ensures c.requires.job (ap (λ (l : List ℕ). get_or l c.args.job 0) c.order.ensures) c.deref-2.ensures.value c.deref-3.ensures.value c.deref.ensures.value
+    (g.R.Reads.may_read c.args.reads.now) (g.R.Reads.value c.args.reads.now) c.requires.inputs c.requires.right in
+    (pin_counts at c.of.result.now c.of-3.result.now c.of.ensures c.of-3.ensures).1
 
 pub circuit_or_none-requires-clause-rules : goal.circuit_or_none-requires-clause-rules
 circuit_or_none-requires-clause-rules g c =
-    let a = c.self.inside in
-    let cell = get_or c.order.result.now c.args.job 0 in
-    let at = at_work a c.self.invariant c.args.self.now c.self.view_is c.sound.ensures c.args.job cell c.requires.job (ap (λ (l : List ℕ). get_or l c.args.job 0) c.order.ensures) c.deref-2.result.now c.deref-3.result.now c.deref.result.now c.deref-2.ensures.value c.deref-3.ensures.value c.deref.ensures.value (g.R.Reads.may_read c.args.reads.now) (g.R.Reads.value c.args.reads.now) c.requires.inputs c.requires.right in
-    rules_in a.design.now (rules_seen a.rules.now) a.unit_pm a.nets.now a.gates.now a.pins.now c.deref-2.result.now c.deref-3.result.now c.deref.result.now a.graph c.args.job cell (g.R.Reads.may_read c.args.reads.now) (g.R.Reads.value c.args.reads.now) at c.of-2.result.now c.of-2.ensures
+    let at = at_work c.self.invariant c.self.view_is c.sound.ensures c.requires.job (ap (λ (l : List ℕ). get_or l c.args.job 0) c.order.ensures) c.deref-2.ensures.value c.deref-3.ensures.value c.deref.ensures.value
+    (g.R.Reads.may_read c.args.reads.now) (g.R.Reads.value c.args.reads.now) c.requires.inputs c.requires.right in
+    rules_in at c.of-2.result.now c.of-2.ensures
 
 pub circuit_or_none-requires-clause-names : goal.circuit_or_none-requires-clause-names
 circuit_or_none-requires-clause-names g c =
@@ -88,7 +80,8 @@ pub returns : goal.returns
 returns g c =
     let a = c.self.inside in
     let cell = get_or c.order.result.now c.args.job 0 in
-    let at = at_work a c.self.invariant c.args.self.now c.self.view_is c.sound.ensures c.args.job cell c.requires.job (ap (λ (l : List ℕ). get_or l c.args.job 0) c.order.ensures) c.deref-2.result.now c.deref-3.result.now c.deref.result.now c.deref-2.ensures.value c.deref-3.ensures.value c.deref.ensures.value (g.R.Reads.may_read c.args.reads.now) (g.R.Reads.value c.args.reads.now) c.requires.inputs c.requires.right in
+    let at = at_work c.self.invariant c.self.view_is c.sound.ensures c.requires.job (ap (λ (l : List ℕ). get_or l c.args.job 0) c.order.ensures) c.deref-2.ensures.value c.deref-3.ensures.value c.deref.ensures.value
+    (g.R.Reads.may_read c.args.reads.now) (g.R.Reads.value c.args.reads.now) c.requires.inputs c.requires.right in
     let d = a.design.now in
     let r = rules_seen a.rules.now in
     let read = drawn_by (g.R.Reads.value c.args.reads.now) c.deref.result.now in
@@ -100,6 +93,6 @@ returns g c =
     let made = subst (λ (x : List (List ℕ)). IsMadeOr (plain d) (nets_at a.nets.now) (pins_of a.pins.now) read c.deref-2.result.now cell (map plain_gate l) c.in_ok-drawn.drawn.items (device_rules r) a.unit_pm x number (plain_or_none c.in_ok-circuit.circuit)) names
     (subst (λ (m : List Bool). IsMadeOr (plain d) (nets_at a.nets.now) (pins_of a.pins.now) read c.deref-2.result.now cell (map plain_gate l) m (device_rules r) a.unit_pm c.deref-9.result.now number (plain_or_none c.in_ok-circuit.circuit)) c.deref-8.ensures.value
     c.in_ok-circuit.ensures) in
-    let right = cell_right a.design.now (rules_seen a.rules.now) a.unit_pm a.nets.now a.gates.now a.pins.now c.deref-2.result.now c.deref-3.result.now c.deref.result.now a.graph c.args.job cell (g.R.Reads.may_read c.args.reads.now) (g.R.Reads.value c.args.reads.now) at l number v c.of-2.ensures numbered c.in_ok-drawn.ensures made in
+    let right = cell_right at l number v c.of-2.ensures numbered c.in_ok-drawn.ensures made in
     subst (λ (z : CircuitJobs). IsCellCircuit z.unit (plain z.design) (rules_seen z.rules) (upward_cell z.design c.args.job) v) c.self.view_is
     (subst (λ e. IsCellCircuit a.unit_pm (plain d) r e v) (ap (λ (x : List ℕ). get_or x c.args.job 0) c.order.ensures) right)
