@@ -1,34 +1,27 @@
 -- Own rectangles and placements that may touch.
-use Rattle.std.proofs.Common.{◌≡◌, ◌⊎◌, inl, inr, ℕ, zero, suc, ◌+◌, ◌-◌, ◌<◌, ◌≤◌, min, max, List, [], ◌∷◌, ◌++◌, Some, map, slice_get, get_or, length, take, refl, sym, ◌∙◌, ap, subst, arith}
+use Rattle.std.proofs.Common.{◌≡◌, ◌⊎◌, inl, inr, ℕ, zero, suc, ◌+◌, ◌-◌, ◌<◌, ◌≤◌, min, max, List, [], ◌∷◌, ◌++◌, Some, slice_get, get_or, length, take, refl, sym, ◌∙◌, ap, subst, arith}
 use Rattle.std.proofs.Math.Seq.{take-length}
-use Rattle.std.proofs.lemmas.List.{take_more, map-append}
-use Rattle.std.proofs.lemmas.Option.{slice_get_within, slice_get-get_or}
-use Rattle.flat_laws.proofs.Items.{at_placed}
+use Rattle.std.proofs.lemmas.List.{take_more}
+use Rattle.std.proofs.lemmas.Option.{slice_get-get_or}
 use Rattle.flat_layout.specs.Layout.{Design}
 use Rattle.flat_layout.specs.Nets.{Own, Child, Tables}
-use Rattle.flat_layout.specs.Plane.{IsIn, IsNear}
-use Rattle.flat_layout.specs.Regions.{Wiring, At}
-use Rattle.geo_base.specs.declared.shapes.Rect.{Rect}
-use Rattle.geo_base.specs.declared.shapes.Square.{Square}
+use Rattle.flat_layout.specs.Regions.{Wiring}
 use Rattle.link_classes.specs.Classes.{IsLinked, IsOf}
 use Rattle.link_classes.specs.declared.classes.Link.{Link}
-use Rattle.net_link_laws.proofs.Held.{own_held, child_held_at, square_below}
-use Rattle.net_link_laws.proofs.Looking.{near_grown}
+use Rattle.net_link_laws.proofs.Held.{own_held}
 use Rattle.net_link_laws.specs.Found.{IsSquareLink}
 use Rattle.touching_pieces.proofs.Chains.{one_on}
 use Rattle.touching_pieces.specs.Pairs.{AreOne}
-use Rattle.net_link_laws.specs.Places.{owned_before, places_of}
-use Rattle.net_link_laws.specs.Windows.{grown}
+use Rattle.net_link_laws.specs.Places.{owned_before}
 use Rattle.net_walk.proofs.Adding.{nowhere}
 use Rattle.net_walk.proofs.Pairing.{linked_left, linked_right, linked_either}
-use Rattle.net_walk.proofs.Placing.{among_at, at_among, owned_piece, piece_at, pieces_long}
+use Rattle.net_walk.proofs.Placing.{among_at, piece_at, pieces_long}
 use Rattle.net_walk.proofs.Spanning.{linked_cut}
 use Rattle.net_walk.proofs.Walking.{owned_step}
-use Rattle.net_walk.specs.Beside.{AddsBeside, AddsPairsBeside, AddsPieceBeside, AreBesideLinks, ArePairsBeside, IsPairBeside, counted_from}
+use Rattle.net_walk.specs.Beside.{AddsBeside, AddsPairsBeside, AddsPieceBeside, AreBesideLinks, ArePairsBeside, IsPairBeside}
 use Rattle.net_walk.specs.Owned.{IsOwnPiece, owned_pieces}
-use Rattle.net_walk.specs.Pairs.{AreSpanPieces, IsSpanPiece, first_of}
-use Rattle.touching_pieces.specs.Pairs.{AddsTouching, AreInTouch, IsAmong}
-use Rattle.touching_pieces.specs.Touching.{AreTouching}
+use Rattle.net_walk.specs.Pairs.{first_of}
+use Rattle.touching_pieces.specs.Pairs.{IsAmong}
 use Rattle.touching_pieces.specs.declared.pieces.Piece.{Piece}
 
 abbrev pub no_part : Piece
@@ -36,13 +29,6 @@ no_part = record { conductor = 0; rect = nowhere; item = 0 }
 
 pub piece_among : (ps : List Piece) (k : ℕ) → k < length ps → IsAmong (get_or ps k no_part) ps
 piece_among ps k lt = among_at ps k (get_or ps k no_part) (slice_get-get_or ps k no_part lt)
-
-pub counted_more : (by : ℕ) (ps : List Piece) (k : ℕ) → k < length ps
-    → map (counted_from by) (take k ps) ++ counted_from by (get_or ps k no_part) ∷ [] ≡ map (counted_from by) (take (k + 1) ps)
-counted_more by ps k lt = sym (ap (λ (l : List Piece). map (counted_from by) l) (take_more ps k no_part lt) ∙ map-append (counted_from by) (take k ps) (get_or ps k no_part ∷ []))
-
-pub counted_all : (by : ℕ) (ps : List Piece) (k : ℕ) → k ≡ length ps → map (counted_from by) (take k ps) ≡ map (counted_from by) ps
-counted_all by ps k e = ap (λ (l : List Piece). map (counted_from by) l) (ap (λ i. take i ps) e ∙ take-length ps)
 
 -- of one piece
 
@@ -72,7 +58,7 @@ pair_is one other i j from lt le (inl h) = let a = h.0 in let b = h.1 in (omega 
 pair_is one other i j from lt le (inr h) = let a = h.0 in let b = h.1 in (omega (arith, a, b), omega (arith, a, b))
 
 -- the place of a rectangle's item lies among those of all
-item_below : (w : Wiring) (t : Tables) (cell c r : ℕ) → c < length w.conductors → r < length (t.own cell c) → owned_before t cell c + r < owned_before t cell (length w.conductors)
+pub item_below : (w : Wiring) (t : Tables) (cell c r : ℕ) → c < length w.conductors → r < length (t.own cell c) → owned_before t cell c + r < owned_before t cell (length w.conductors)
 item_below w t cell c r known lt = let h = owned_step t cell c (length w.conductors) known in omega (arith, h)
 
 pub one_pair : (d : Design) (w : Wiring) (t : Tables) (cell places : ℕ) (pieces : List Piece) (pair : Link) (old new : List Link) → pieces ≡ owned_pieces t cell (length w.conductors) → IsPairBeside (length pieces) places pair
@@ -141,73 +127,6 @@ pair_beside_at from places [] k o h lt = absurd (omega arith)
 pair_beside_at from places (l ∷ ls) zero o h lt = h.0
 pair_beside_at from places (l ∷ ls) (suc k) o h lt = pair_beside_at from places ls k o h.1 (omega arith)
 
--- all that may touch
-
-near_back : (p q : Square) → IsNear p q → IsNear q p
-near_back p q (inl e) = inl (sym e)
-near_back p q (inr (inl (e, inl f))) = inr (inl (sym e, inr f))
-near_back p q (inr (inl (e, inr f))) = inr (inl (sym e, inl f))
-near_back p q (inr (inr (e, inl f))) = inr (inr (sym e, inr f))
-near_back p q (inr (inr (e, inr f))) = inr (inr (sym e, inl f))
-
-counted_among : (by : ℕ) (ps : List Piece) (p : Piece) → IsAmong p ps → IsAmong (counted_from by p) (map (counted_from by) ps)
-counted_among by [] p h = absurd h
-counted_among by (q ∷ ps) p (inl e) = inl (ap (counted_from by) e)
-counted_among by (q ∷ ps) p (inr h) = inr (counted_among by ps p h)
-
-among_counted : (by : ℕ) (ps : List Piece) (p : Piece) → IsAmong p (map (counted_from by) ps) → (q : Piece) × IsAmong q ps × (p ≡ counted_from by q)
-among_counted by [] p h = absurd h
-among_counted by (q ∷ ps) p (inl e) = (q, inl refl, e)
-among_counted by (q ∷ ps) p (inr h) = let r = among_counted by ps p h in (r.0, inr r.1, r.2)
-
-pairs_beside : (from places : ℕ) (ls : List Link) → ((i j : ℕ) → IsLinked ls i j → (((i < from) × (from ≤ j) × (j < from + places)) ⊎ ((j < from) × (from ≤ i) × (i < from + places)))) → ArePairsBeside from places ls
-pairs_beside from places [] f = tt
-pairs_beside from places (l ∷ ls) f = (f l.one l.other (inl (inl (refl, refl))), pairs_beside from places ls (λ i j m. f i j (inr m)))
-
-module _ (d : Design) (w : Wiring) (t : Tables) (cell from : ℕ) (pieces spans : List Piece) (pairs : List Link) (own : pieces ≡ owned_pieces t cell (length w.conductors)) (same : from ≡ length pieces)
-    (are : AreSpanPieces d t cell (length (places_of d cell)) spans) (touching : AddsTouching pieces (map (counted_from from) spans) [] pairs) where
-  in_touch_of : (i j : ℕ) → AreInTouch pieces (map (counted_from from) spans) i j → (i < from) × (from ≤ j) × (j < from + length (places_of d cell))
-  in_touch_of i j h =
-      let n = length w.conductors in
-      let at = at_among pieces h.one h.in_ones in
-      let at_too : slice_get (owned_pieces t cell n) at.0 ≡ Some h.one = subst (λ (l : List Piece). slice_get l at.0 ≡ Some h.one) own at.1 in
-      let its = (owned_piece t cell n at.0 h.one at_too).1 in
-      let within = slice_get_within pieces at.0 h.one at.1 in
-      let one = h.from in
-      let o = among_counted from spans h.other h.in_others in
-      let item : h.other.item ≡ o.0.item + from = ap (λ (p : Piece). p.item) o.2 in
-      let f = are.each o.0 o.1 in
-      let lt = slice_get_within (places_of d cell) o.0.item f.0 f.1 in
-      let two = h.to in
-      (omega (arith, its, within, one, same), omega (arith, item, two), omega (arith, item, two, lt))
-
-  pub are_pairs : ArePairsBeside from (length (places_of d cell)) pairs
-  are_pairs = pairs_beside from (length (places_of d cell)) pairs (λ i j m. elim (touching.each i j m) [
-    | inl none ↦ absurd none
-    | inr b ↦ elim b [ inl h ↦ inl (in_touch_of i j h) | inr h ↦ inr (in_touch_of j i h) ]
-  ])
-
-  meet : (c r k x : ℕ) → IsSquareLink d w t cell (Own c r) (Child k x) → IsLinked pairs (owned_before t cell c + r) (from + k)
-  meet c r k x s =
-      let n = length w.conductors in
-      let p = s.to.0 in
-      let there = at_placed d cell k p s.to.1 in
-      let rect = own_held d t cell c r s.one s.p s.held in
-      let o : Piece = record { conductor = c; rect = rect.rect; item = owned_before t cell c + r } in
-      let at : slice_get pieces (owned_before t cell c + r) ≡ Some o = subst (λ (l : List Piece). slice_get l (owned_before t cell c + r) ≡ Some o) (sym own) (piece_at t cell n c r rect.rect s.from.0 rect.listed) in
-      let held = square_below d t p x s.other s.q (child_held_at d t cell k x p (At s.other s.q) s.to.1 s.others) in
-      let a = elim (are.found k p (slice_get_within (places_of d cell) k p there) there) as (λ _. (v : Piece) × IsAmong v spans × IsSpanPiece d t p k v) [ inl none ↦ absurd (none s.other x held.square held.holds) | inr v ↦ v ] in
-      let inside : IsIn s.q a.2.span = subst (λ v. IsIn v a.2.span) held.image (a.2.is.all s.other x held.square held.holds) in
-      let near : IsNear s.q s.p = near_back s.p s.q s.near in
-      let close : IsIn s.p (grown a.2.span) = near_grown a.2.span s.q s.p inside near in
-      let touch : AreTouching o.rect (counted_from from a.0).rect = record { one = s.p; other = s.p; in_one = rect.inside; in_other = subst (λ (v : Rect). IsIn s.p v) (sym a.2.rect) close; near = inl refl } in
-      let item = a.2.item in
-      let to : (counted_from from a.0).item ≡ from + k = omega (arith, item) in
-      let in_touch : AreInTouch pieces (map (counted_from from) spans) (owned_before t cell c + r) (from + k) =
-      record { one = o; other = counted_from from a.0; in_ones = among_at pieces (owned_before t cell c + r) o at; in_others = counted_among from spans a.0 a.1; touching = touch; from = refl; to = to } in
-      let long : length pieces ≡ owned_before t cell n = ap (λ (l : List Piece). length l) own ∙ pieces_long t cell n in
-      let below = item_below w t cell c r s.from.0 s.from.1 in
-      elim (touching.found (owned_before t cell c + r) (from + k) in_touch) [ inl e ↦ absurd (let z : ⊥ = omega (arith, e, below, long, same) in z) | inr l ↦ l ]
-
-  pub whole_beside : (old new : List Link) → AddsPairsBeside d w t cell from pairs old new → AddsBeside d w t cell old new
-  whole_beside old new h = record { kept = h.kept; each = h.each; found = λ c r k x s. h.found c r k x (meet c r k x s) s }
+pub whole_beside : (d : Design) (w : Wiring) (t : Tables) (cell from : ℕ) (pairs old new : List Link) → ((c r k x : ℕ) → c < length w.conductors → IsSquareLink d w t cell (Own c r) (Child k x) → IsLinked pairs (owned_before t cell c + r) (from + k))
+    → AddsPairsBeside d w t cell from pairs old new → AddsBeside d w t cell old new
+whole_beside d w t cell from pairs old new found h = record { kept = h.kept; each = h.each; found = λ c r k x s. h.found c r k x (found c r k x s.from.0 s) s }

@@ -93,12 +93,12 @@ below_all below net_of at n old new e h = subst (λ k. AddsMarks (IsNumberedFirs
 one_cons : (xs : List ℕ) (y x : ℕ) → IsOneOf xs x → IsOneOf (y ∷ xs) x
 one_cons xs y x h = (suc h.0, (let lt = h.1 in let more : suc h.0 < length (y ∷ xs) = omega (arith, lt) in more), h.2)
 
-one_left : (xs ys : List ℕ) (x : ℕ) → IsOneOf xs x → IsOneOf (xs ++ ys) x
+pub one_left : (xs ys : List ℕ) (x : ℕ) → IsOneOf xs x → IsOneOf (xs ++ ys) x
 one_left [] ys x h = let lt = h.1 in absurd (omega (arith, lt))
 one_left (z ∷ xs) ys x (zero, lt, e) = (zero, (let more : 0 < length ((z ∷ xs) ++ ys) = omega arith in more), e)
 one_left (z ∷ xs) ys x (suc i, lt, e) = one_cons (xs ++ ys) z x (one_left xs ys x (i, (let less : i < length xs = omega (arith, lt) in less), e))
 
-one_last : (xs : List ℕ) (y : ℕ) → IsOneOf (xs ++ y ∷ []) y
+pub one_last : (xs : List ℕ) (y : ℕ) → IsOneOf (xs ++ y ∷ []) y
 one_last [] y = (zero, (let lt : 0 < 1 = omega arith in lt), refl)
 one_last (z ∷ xs) y = one_cons (xs ++ y ∷ []) z y (one_last xs y)
 

@@ -19,4 +19,5 @@ pub mod Wholes
 pub mod Holding
 pub mod Motions
 pub mod Leading
+pub mod Partnering
 pub mod Enough

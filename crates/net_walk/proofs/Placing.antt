@@ -103,7 +103,7 @@ pieces_long t cell (suc n) =
     both_long (x ∷ xs) ys zero k e f = absurd (omega (arith, e))
     both_long (x ∷ xs) ys (suc m) k e f = let h = both_long xs ys m k (omega (arith, e)) f in omega (arith, h)
 
-of_rect : (t : Tables) (cell n at : ℕ) (xs : List Rect) (r i : ℕ) (o : Piece) → slice_get (rect_pieces n at xs) i ≡ Some o → (o.conductor ≡ n) × (slice_get xs i ≡ Some o.rect) × (at + i ≡ o.item)
+pub of_rect : (t : Tables) (cell n at : ℕ) (xs : List Rect) (r i : ℕ) (o : Piece) → slice_get (rect_pieces n at xs) i ≡ Some o → (o.conductor ≡ n) × (slice_get xs i ≡ Some o.rect) × (at + i ≡ o.item)
 of_rect t cell n at [] r i o h = cc
 of_rect t cell n at (x ∷ xs) r zero o h =
     let first : Piece = record { conductor = n; rect = x; item = at } in

@@ -85,7 +85,3 @@ IsPairBeside from places l = ((l.one < from) × (from ≤ l.other) × (l.other <
 abbrev pub ArePairsBeside : ℕ → ℕ → List Link → Type 0
 ArePairsBeside from places [] = Unit {0}
 ArePairsBeside from places (l ∷ ls) = IsPairBeside from places l × ArePairsBeside from places ls
-
--- the piece's item, counted from a number on
-abbrev pub counted_from : ℕ → Piece → Piece
-counted_from by o = record { conductor = o.conductor; rect = o.rect; item = o.item + by }

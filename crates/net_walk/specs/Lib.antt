@@ -12,3 +12,4 @@ pub mod Contacts
 pub mod Held
 pub mod Whole
 pub mod Leaders
+pub mod Partners

@@ -1,29 +1,27 @@
 //! Links between a cell's own rectangles and the nets of placements.
 
-ghost use Rattle.std.specs.Prelude.{◌≡◌, ◌+◌, ◌<◌, ◌≤◌, ◌↔◌, ℕ, [], ◌∷◌, get_or, length, map};
+ghost use Rattle.std.specs.Prelude.{◌≡◌, ◌+◌, ◌<◌, ◌≤◌, ◌↔◌, ℕ, [], ◌∷◌, get_or, length};
 ghost use Rattle.std.specs.Prelude.{slice_get, Some, IfOk, OnOk};
 ghost use Rattle.flat_layout.specs.Nets.{AreRightBelow, items_of};
 ghost use Rattle.flat_layout.specs.Regions.{IsJoined};
 ghost use Rattle.net_link_laws.specs.Places.{places_of};
 ghost use Rattle.net_walk.specs.Owned.{IsOwnPiece, owned_pieces};
 ghost use Rattle.net_walk.specs.Together.{AreFirsts};
-ghost use Rattle.touching_pieces.specs.Pairs.{AreJoined, IsAmong};
-ghost use Rattle.touching_pieces.specs.declared.pieces.Piece.{Piece};
+ghost use Rattle.touching_pieces.specs.Pairs.{AreJoined};
 ghost use Rattle.geo_base.specs.Near.{IsNearRect, IsNearMotion};
 ghost use Rattle.geo_base.specs.Rects.{IsRect};
 ghost use Rattle.net_link_laws.specs.Laws.{AreNetsUnder};
 ghost use Rattle.net_link_laws.specs.Windows.{grown};
 ghost use Rattle.net_walk.specs.Beside.{AddsBeside, AddsPairsBeside, AddsPieceBeside};
 ghost use Rattle.net_walk.specs.Beside.{ArePairsBeside, BesidePairLaw, IsBesideSeen, IsPairBeside};
-ghost use Rattle.net_walk.specs.Beside.{counted_from};
 ghost use Rattle.net_walk.specs.Held.{AreHeldLists};
 ghost use Rattle.net_walk.specs.Seen.{AreLinksOver};
 ghost use Rattle.net_walk.specs.Walk.{place_of};
 
 use crate::cells::{Cells, Element};
-use crate::children::span_pieces;
 use crate::held::HeldLists;
 use crate::own::own_pieces;
+use crate::partners::partners;
 use crate::rects::grown;
 use crate::seen::see_joined;
 use crate::sums::more;
@@ -31,7 +29,7 @@ use crate::whole::{is_covered, whole_links};
 use geo_base::Rect;
 use link_classes::Link;
 use std::alloc::{AllocError, Global};
-use touching_pieces::{Joined, Piece, touching_links, touching_pairs};
+use touching_pieces::{Joined, Piece, touching_links};
 
 /// Links whose chains join the item of a rectangle and those of a placement's nets that touch it;
 /// these stand from a place on. Only conductors that are joined to the rectangle's are walked, each
@@ -83,22 +81,6 @@ pub fn beside_links<C: Cells>(
 pub fn beside_law()
     ensures { BesidePairLaw }
 {}
-
-// The same pieces, their items counted from a number on.
-fn counted_from(alloc: Global, pieces: &[Piece], by: u32) -> Result<Vec<Piece>, AllocError>
-    requires { (o : Piece) → IsAmong o pieces.now → o.item + by < 4294967296 }
-    ensures { IfOk result (λ v. v.items ≡ map (counted_from by) pieces.now) }
-{
-    let mut out = Vec::new(alloc);
-    for piece in pieces {
-        out.push(Piece {
-            conductor: piece.conductor,
-            rect: piece.rect,
-            item: piece.item + by,
-        })?;
-    }
-    Ok(out)
-}
 
 // Adds the links between an own rectangle and the nets of a placement by what is near it.
 fn link_near<C: Cells>(
@@ -271,7 +253,8 @@ fn link_all_beside<C: Cells>(
 }
 
 /// Adds the links between a cell's own rectangles and the nets of its placements. It asks only
-/// where a rectangle meets what bounds a placement, grown by one square; a placed cell is walked in
+/// where a rectangle meets what bounds a placement, grown by one square, and the placed cell may
+/// hold something that is joined to the rectangle's conductor; a placed cell is walked in
 /// the rectangle's window alone, and not where the rectangle covers it whole: then its nets are
 /// taken from lists that are made once for each cell and conductor. 2^32 rectangles and placements
 /// or more are refused.
@@ -296,10 +279,7 @@ pub fn all_beside<C: Cells>(
     let pieces = own_pieces(alloc, cells, cell)?;
     let owned = more(0, pieces.len())?;
     more(owned, firsts.len())?;
-    let spans = span_pieces(alloc, cells, cell)?;
-    let counted = counted_from(alloc, &spans, owned)?;
-    let mut pairs = Vec::new(alloc);
-    touching_pairs(alloc, &pieces, &counted, &mut pairs)?;
+    let pairs = partners(alloc, cells, cell, owned, joins)?;
     let mut memo = HeldLists::new(alloc);
     link_all_beside(
         alloc, cells, cell, &pieces, &pairs, firsts, joins, &mut memo, out,

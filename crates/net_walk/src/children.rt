@@ -125,8 +125,10 @@ fn link_numbers<C: Cells>(
     Ok(beside)
 }
 
-// Adds the links of pairs of placements. A pair that lies as the one before has its contacts.
-fn link_pairs<C: Cells>(
+/// Adds the links of pairs of placements. A pair that lies as the one before has its contacts. Cost:
+/// for each way in which two cells lie beside each other that of `children_links`; and the links. An
+/// `Err` is want of memory.
+pub fn link_pairs<C: Cells>(
     alloc: Global,
     cells: &C,
     cell: u32,
@@ -156,9 +158,10 @@ fn link_pairs<C: Cells>(
     Ok(())
 }
 
-// The pairs of placements to be linked: of those that stand alike one leads the others, and each
-// two leaders whose hulls meet or touch.
-fn enough_pairs<C: Cells>(alloc: Global, cells: &C, cell: u32) -> Result<Vec<Link>, AllocError>
+/// The pairs of placements to be linked: of those that stand alike one leads the others, and each
+/// two leaders whose hulls meet or touch; pairs that lie alike stand together. Cost: O(n log n) for
+/// n placements and pairs. An `Err` is want of memory.
+pub fn enough_pairs<C: Cells>(alloc: Global, cells: &C, cell: u32) -> Result<Vec<Link>, AllocError>
     ensures { IfOk result (λ v. AreEnoughPairs (C.design cells.now) (C.wiring cells.now)
         (C.tables cells.now) cell v.items) }
 {

@@ -49,7 +49,7 @@ fn mixed_signed(number: u64, part: i64) -> u64 {
 // A number for how two placements lie: for their cells, and for the first as it is seen from the
 // other. Where two ways have one number, each is only looked for more often.
 fn way_of(cell: u32, other: u32, motion: &Motion) -> u64 {
-    let cells = mixed(u64::from(cell), u64::from(other));
+    let cells = mixed(mixed(1, u64::from(cell)), u64::from(other));
     let turned = mixed(cells, u64::from(turn_number(motion.turn)));
     mixed_signed(mixed_signed(turned, motion.dx), motion.dy)
 }

@@ -15,7 +15,13 @@ use link_classes::Link;
 use std::alloc::{AllocError, Global};
 use touching_pieces::{Joined, Piece, touching_links};
 
-fn push_rects(own: &[Rect], conductor: u32, at: u32, out: &mut Vec<Piece>) -> Result<(), AllocError>
+// Rectangles of a conductor as pieces, whose items stand from a place on.
+pub(crate) fn push_rects(
+    own: &[Rect],
+    conductor: u32,
+    at: u32,
+    out: &mut Vec<Piece>,
+) -> Result<(), AllocError>
     requires filled { HaveArea own.now }
     requires room { at + length own.now ≤ 4294967295 }
     ensures seen { OnOk result (AddsSeen (IsOfRects own.now conductor at (length own.now))
