@@ -41,7 +41,7 @@ fn all_devices<R: Threads + Wait + Sync, G: Gate + Sync>(
 {
     let design = wired.design();
     design.sound();
-    let phase = GatePhase::new(alloc, wired, zones, layers, nets)?;
+    let phase = GatePhase::new(alloc, wired, zones, layers, nets, crew)?;
     let results = run_phase(alloc, &phase, crew)?;
     let gates = Gates::new(alloc, design, results)?;
     let more = MorePhase::over(phase.into_work(), &gates);

@@ -22,7 +22,7 @@ pub fn find_nets<R: Threads + Wait + Sync, G: Gate + Sync>(
 {
     let design = wired.design();
     design.sound();
-    let phase = NetPhase::new(alloc, wired)?;
+    let phase = NetPhase::new(alloc, wired, crew)?;
     let results = run_phase(alloc, &phase, crew)?;
     let nets = Nets::new(alloc, design, results)?;
     Ok(nets)

@@ -99,6 +99,15 @@ go_more d r cell from n u old new at go more = record {
   areas = each_both (HasArea d r cell) old new go.areas more.areas;
 }
 
+-- with those up to a further number
+pub go_both : (d : Design) (r : Rules) (cell from middle to : ℕ) (one other : List Gate) → GoOn d r cell from middle one → GoOn d r cell middle to other → GoOn d r cell from to (one ++ other)
+go_both d r cell from middle to one other go on = record {
+  entries = λ t before right h.
+      subst (λ (l : List Gate). AreGatesTo d (wiring_of r) t (device_rules r) to cell (map plain_gate l)) (append_assoc before one other)
+      (on.entries t (before ++ one) right (go.entries t before right h));
+  areas = each_both (HasArea d r cell) one other go.areas on.areas;
+}
+
 -- the transistors of a cell are those of the first rules
 pub mos_cell : (d : Design) (r : Rules) (cell to : ℕ) (v : CellGates) → to ≡ length (mos_rules r) → GoOn d r cell 0 to v.gates.items → AreMosCellGates d r cell v
 mos_cell d r cell to v e go = record {

@@ -10,20 +10,23 @@ ghost use Rattle.gate_phase.specs.Work.{key_of};
 
 use crate::work::DeviceWork;
 use deep_tables::{CellGates, GateKey, Layers, Nets, Zones};
+use job_board::Crew;
 use job_graph::{Graph, Phase, Reads};
 use net_phase::Wired;
 use std::alloc::{AllocError, Global};
 use std::marker::Model;
+use std::thread::Threads;
 
 /// The gates of transistors of each cell that the top reaches. Its jobs go through the design's
 /// order. They read the disturbed squares, the layers and the nets of all cells, so none waits for
 /// another.
 #[derive(Drop)]
-pub struct GatePhase<'a> {
+pub struct GatePhase<'a, R, G> {
     work: DeviceWork<'a>,
+    crew: &'a Crew<'a, R, G>,
 }
 
-impl<'a> Model for GatePhase<'a> {
+impl<'a, R, G> Model for GatePhase<'a, R, G> {
     ghost use Rattle.gate_phase.specs.Work.{WorkOf};
 
     ghost Value = { WorkOf };
@@ -31,8 +34,9 @@ impl<'a> Model for GatePhase<'a> {
     ghost view = { λ p. p.work };
 }
 
-impl<'a> GatePhase<'a> {
-    /// The phase of what a layout's phases read, and of its disturbed squares, layers and nets.
+impl<'a, R, G> GatePhase<'a, R, G> {
+    /// The phase of what a layout's phases read, and of its disturbed squares, layers and nets, with
+    /// those who share the work of a large cell.
     /// 2^32 names, device rules or globals, or more, are refused. It costs the indexes of the
     /// layers of device rules, and is linear in the names for each reached cell.
     pub fn new(
@@ -41,7 +45,8 @@ impl<'a> GatePhase<'a> {
         zones: &'a Zones,
         layers: &'a Layers,
         nets: &'a Nets,
-    ) -> Result<GatePhase<'a>, AllocError>
+        crew: &'a Crew<'a, R, G>,
+    ) -> Result<GatePhase<'a, R, G>, AllocError>
         requires zones { AreZones (plain wired.now.design) (rules_seen wired.now.rules) zones.now }
         requires layers { AreLayers (plain wired.now.design) (rules_seen wired.now.rules)
             layers.now }
@@ -51,7 +56,7 @@ impl<'a> GatePhase<'a> {
         ensures jobs { IfOk result (λ p. AreFreeJobs wired.now.design p.graph) }
     {
         let work = DeviceWork::new(alloc, wired, zones, layers, nets)?;
-        Ok(GatePhase { work })
+        Ok(GatePhase { work, crew })
     }
 
     /// What the phase read, for the phase of further devices.
@@ -62,7 +67,7 @@ impl<'a> GatePhase<'a> {
     }
 }
 
-impl Phase for GatePhase<'_> {
+impl<R: Threads, G> Phase for GatePhase<'_, R, G> {
     type Out = CellGates;
 
     ghost graph = { λ p. p.graph };
@@ -77,15 +82,16 @@ impl Phase for GatePhase<'_> {
         self.work.key(false)
     }
 
-    fn work<R: Reads<CellGates>>(
+    fn work<V: Reads<CellGates>>(
         &self,
         alloc: Global,
         job: u32,
-        reads: &R,
+        reads: &V,
     ) -> Result<CellGates, AllocError> {
         let _ = reads;
         let cell = self.work.cell_of(job);
-        let gates = self.work.gates_of(alloc, cell, 0, self.work.transistors())?;
+        let to = self.work.transistors();
+        let gates = self.work.gates_by(alloc, cell, 0, to, self.crew)?;
         Ok(CellGates { gates })
     }
 }

@@ -15,9 +15,10 @@ ghost use Rattle.gate_phase.specs.Work.{key_of};
 use crate::bulks::{Grounds, device_grounds};
 use crate::device::device_count;
 use crate::indexes::IndexedLayers;
-use crate::list::cell_gates;
+use crate::list::{cell_gates, push_all};
 use cell_graph::Design;
 use deep_tables::{CellNets, Gate, GateKey, Layers, Nets, Zones, free_graph};
+use job_board::Crew;
 use job_graph::Graph;
 use list_base::small;
 use net_phase::{Wired, known_nets};
@@ -25,6 +26,10 @@ use rule_text::RuleSet;
 use std::alloc::{AllocError, Global};
 use std::marker::Model;
 use std::snapshot::Snapshot;
+use std::thread::Threads;
+
+// A cell of fewer items is worked by one worker: a thread would cost more than it gives.
+const LARGE: usize = 10_000;
 
 /// What the phases of a layout read, its disturbed squares, layers and nets, and the jobs of both
 /// phases: they go through the design's order. As they read the tables of all cells, none waits for
@@ -165,4 +170,73 @@ impl<'a> DeviceWork<'a> {
             globals,
         )
     }
+
+    // Whether a cell has so many items that a further thread costs less than it gives.
+    fn is_large(&self, cell: u32) -> bool {
+        match self.nets.get(cell as usize) {
+            Some(Some(nets)) => nets.items.len() >= LARGE,
+            _ => false,
+        }
+    }
+
+    /// What `gates_of` finds, at its cost. For a cell of 10,000 items or more the first half of the
+    /// rules is worked beside the other, on a further thread.
+    pub fn gates_by<R: Threads, G>(
+        &self,
+        alloc: Global,
+        cell: u32,
+        from: u32,
+        to: u32,
+        crew: &Crew<R, G>,
+    ) -> Result<Vec<Gate>, AllocError>
+        requires reached { IsReached (plain self.now.design) cell }
+        requires from { from ≤ to }
+        requires to { to ≤ length (device_rules (rules_seen self.now.rules)) }
+        ensures { IfOk result (λ v. GoOn (plain self.now.design) (rules_seen self.now.rules) cell
+            from to v.items) }
+    {
+        if !self.is_large(cell) {
+            return self.gates_of(alloc, cell, from, to);
+        }
+        let middle = from + (to - from) / 2;
+        let halves = gates_beside(self, alloc, cell, from, middle, to, crew)?;
+        let mut gates = halves.0;
+        push_all(&mut gates, halves.1)?;
+        Ok(gates)
+    }
+}
+
+// The regions for the rules up to a number, and for those from there on, side by side.
+fn gates_beside<R: Threads, G>(
+    work: &DeviceWork,
+    alloc: Global,
+    cell: u32,
+    from: u32,
+    middle: u32,
+    to: u32,
+    crew: &Crew<R, G>,
+) -> Result<(Vec<Gate>, Vec<Gate>), AllocError>
+    requires reached { IsReached (plain work.now.design) cell }
+    requires from { from ≤ middle }
+    requires middle { middle ≤ to }
+    requires to { to ≤ length (device_rules (rules_seen work.now.rules)) }
+    ensures one { IfOk result (λ v. GoOn (plain work.now.design) (rules_seen work.now.rules) cell
+        from middle v.0.items) }
+    ensures other { IfOk result (λ v. GoOn (plain work.now.design) (rules_seen work.now.rules) cell
+        middle to v.1.items) }
+{
+    let first = move || -> Result<Vec<Gate>, AllocError>
+        requires { IsReached (plain work.now.design) cell × (from ≤ middle)
+            × (middle ≤ length (device_rules (rules_seen work.now.rules))) }
+        ensures { IfOk result (λ v. GoOn (plain work.entry.now.design)
+            (rules_seen work.entry.now.rules) cell from middle v.items) }
+    { work.gates_of(alloc, cell, from, middle) };
+    let second = move || -> Result<Vec<Gate>, AllocError>
+        requires { IsReached (plain work.now.design) cell × (middle ≤ to)
+            × (to ≤ length (device_rules (rules_seen work.now.rules))) }
+        ensures { IfOk result (λ v. GoOn (plain work.entry.now.design)
+            (rules_seen work.entry.now.rules) cell middle to v.items) }
+    { work.gates_of(alloc, cell, middle, to) };
+    let (one, other) = crew.both(first, second);
+    Ok((one?, other?))
 }

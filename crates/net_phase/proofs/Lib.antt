@@ -4,6 +4,7 @@ pub mod Holding
 pub mod Itemizing
 pub mod Knowing
 pub mod Layering
+pub mod Linking
 pub mod Listing
 pub mod Marks
 pub mod Reaching

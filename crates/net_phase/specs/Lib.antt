@@ -4,6 +4,7 @@ pub mod Elements
 pub mod Graph
 pub mod Indexes
 pub mod Items
+pub mod Linked
 pub mod Own
 pub mod Phase
 pub mod Reading

@@ -8,6 +8,7 @@ mod graph;
 mod indexes;
 mod items;
 mod known;
+mod linked;
 mod own;
 mod phase;
 mod reading;

@@ -9,15 +9,15 @@ use Rattle.gate_phase.specs.Work.{WorkOf}
 use Rattle.gate_phase.proofs.Listing.{mos_cell}
 use Rattle.gate_phase.proofs.phase.GatePhasePhase.work.Goals as goal
 
-pub gates_of-requires-clause-to : goal.gates_of-requires-clause-to
-gates_of-requires-clause-to g c =
+pub gates_by-requires-clause-to : goal.gates_by-requires-clause-to
+gates_by-requires-clause-to g c =
     let r = rules_seen c.self.inside.work.rules in
-    let both = length-append (mos_rules r) (map (more_rule r) r.more) in let many = c.transistors.ensures in omega (arith, both, many)
+    let both = length-append (mos_rules r) (map (more_rule r) r.more) in let many = c.transistors-to.ensures in omega (arith, both, many)
 
 pub returns : goal.returns
 returns g c =
     let w = c.self.inside.work in
     let v : CellGates = record { gates = c.in_ok-gates.gates } in
-    let made = mos_cell (plain w.design) (rules_seen w.rules) c.cell_of-cell.result c.transistors.result v c.transistors.ensures c.in_ok-gates.ensures in
+    let made = mos_cell (plain w.design) (rules_seen w.rules) c.cell_of-cell.result c.transistors-to.result v c.transistors-to.ensures c.in_ok-gates.ensures in
     subst (λ (z : WorkOf). AreMosCellGates (plain z.design) (rules_seen z.rules) (upward_cell z.design c.args.job) v) c.self.view_is
     (subst (λ n. AreMosCellGates (plain w.design) (rules_seen w.rules) n v) c.cell_of-cell.ensures.cell made)

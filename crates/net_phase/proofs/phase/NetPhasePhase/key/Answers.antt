@@ -8,6 +8,6 @@ abbrev key_of : Linked → RuleSet → DeepKey
 key_of d r = record { design = record { marker = record {}; value = d }; rules = record { marker = record {}; value = r } }
 
 pub returns : goal.returns
-returns c =
+returns g c =
     ap (λ d. key_of d c.of-2.result.value) (c.of.ensures ∙ c.design.ensures) ∙ ap (λ r. key_of c.self.inside.wired.now.design r) (c.of-2.ensures ∙ c.rules.ensures)
     ∙ ap (λ v. key_of v.design v.rules) c.self.view_is

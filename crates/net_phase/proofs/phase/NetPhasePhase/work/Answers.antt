@@ -27,12 +27,12 @@ cell_nets-requires-clause-right g c =
     let order = c.order-order.result.now in
     let sound = subst (λ (x : Linked). IsSound x) c.design-design.ensures c.sound-2.ensures in
     let order_is : order ≡ d.order = c.order-order.ensures ∙ ap (λ (x : Linked). x.order) c.design-design.ensures in
-    let lt : job < length d.order = subst (λ n. job < n) (ap (λ (z : NetJobs). length z.graph) (sym c.self.view_is) ∙ c.self.invariant.graph.jobs) c.requires.job in
+    let lt : job < length d.order = subst (λ n. job < n) (ap (λ (z : NetJobs). length z.graph) (sym c.self.view_is) ∙ c.self.invariant.jobs) c.requires.job in
     let read : AreRead d r c.inputs.result.now order nets = c.in_ok-nets.ensures d r (λ i h.
-    subst (λ (o : List ℕ). IsSomeAnd (g.R.Reads.value c.args.reads.now i) (AreCellNets (plain d) r (slice_index o i))) (sym order_is)
-    (subst (λ (z : NetJobs). IsSomeAnd (g.R.Reads.value c.args.reads.now i) (AreCellNets (plain z.design) (rules_seen z.rules) (upward_cell z.design i))) (sym c.self.view_is)
+    subst (λ (o : List ℕ). IsSomeAnd (g.V.Reads.value c.args.reads.now i) (AreCellNets (plain d) r (slice_index o i))) (sym order_is)
+    (subst (λ (z : NetJobs). IsSomeAnd (g.V.Reads.value c.args.reads.now i) (AreCellNets (plain z.design) (rules_seen z.rules) (upward_cell z.design i))) (sym c.self.view_is)
     (c.requires.right i (subst (λ (z : NetJobs). Waits z.graph job i) c.self.view_is (subst (λ l. has i l ≡ true) c.inputs.ensures h))))) in
-    let right = job_right d w.rules c.self.inside.graph w.own nets job c.inputs.result.now order sound c.self.invariant.graph lt c.sound.ensures.own c.inputs.ensures order_is read in
+    let right = job_right d w.rules c.self.inside.graph w.own nets job c.inputs.result.now order sound c.self.invariant lt c.sound.ensures.own c.inputs.ensures order_is read in
     let same = c.below.ensures ∙ ap (λ (l : List (Option (Bor CellNets))). with_nets w (nets_of l)) c.deref.ensures.value in
     below_right c.below.result d w.rules w.own nets (slice_index order job) same right
 
@@ -49,12 +49,12 @@ returns g c =
     let order = c.order-order.result.now in
     let sound = subst (λ (x : Linked). IsSound x) c.design-design.ensures c.sound-2.ensures in
     let order_is : order ≡ d.order = c.order-order.ensures ∙ ap (λ (x : Linked). x.order) c.design-design.ensures in
-    let lt : job < length d.order = subst (λ n. job < n) (ap (λ (z : NetJobs). length z.graph) (sym c.self.view_is) ∙ c.self.invariant.graph.jobs) c.requires.job in
+    let lt : job < length d.order = subst (λ n. job < n) (ap (λ (z : NetJobs). length z.graph) (sym c.self.view_is) ∙ c.self.invariant.jobs) c.requires.job in
     let read : AreRead d r c.inputs.result.now order nets = c.in_ok-nets.ensures d r (λ i h.
-    subst (λ (o : List ℕ). IsSomeAnd (g.R.Reads.value c.args.reads.now i) (AreCellNets (plain d) r (slice_index o i))) (sym order_is)
-    (subst (λ (z : NetJobs). IsSomeAnd (g.R.Reads.value c.args.reads.now i) (AreCellNets (plain z.design) (rules_seen z.rules) (upward_cell z.design i))) (sym c.self.view_is)
+    subst (λ (o : List ℕ). IsSomeAnd (g.V.Reads.value c.args.reads.now i) (AreCellNets (plain d) r (slice_index o i))) (sym order_is)
+    (subst (λ (z : NetJobs). IsSomeAnd (g.V.Reads.value c.args.reads.now i) (AreCellNets (plain z.design) (rules_seen z.rules) (upward_cell z.design i))) (sym c.self.view_is)
     (c.requires.right i (subst (λ (z : NetJobs). Waits z.graph job i) c.self.view_is (subst (λ l. has i l ≡ true) c.inputs.ensures h))))) in
-    let right : AreRightBelow (plain d) (wiring_of r) (tables_by w.own nets) (slice_index order job) = job_right d w.rules c.self.inside.graph w.own nets job c.inputs.result.now order sound c.self.invariant.graph lt c.sound.ensures.own c.inputs.ensures order_is read in
+    let right : AreRightBelow (plain d) (wiring_of r) (tables_by w.own nets) (slice_index order job) = job_right d w.rules c.self.inside.graph w.own nets job c.inputs.result.now order sound c.self.invariant lt c.sound.ensures.own c.inputs.ensures order_is read in
     let same = c.below.ensures ∙ ap (λ (l : List (Option (Bor CellNets))). with_nets w (nets_of l)) c.deref.ensures.value in
     if_ok _ _ c.cell_nets.result (λ v made.
     subst (λ (z : NetJobs). AreCellNets (plain z.design) (rules_seen z.rules) (upward_cell z.design job) v) c.self.view_is
