@@ -1,5 +1,6 @@
 pub mod Badly
-pub mod Copied
 pub mod Drawing
 pub mod Few
 pub mod Jobs
+pub mod Moved
+pub mod Tabled

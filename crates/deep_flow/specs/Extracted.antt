@@ -1,8 +1,7 @@
 -- What is extracted from a layout: its netlist is that of the cells' circuits, which stand in the
 -- design's order, over right layers, nets, gates and pins.
-use Rattle.std.specs.Prelude.{◌≡◌, ◌<◌, ◌^◌, ℕ, List, Option, length}
+use Rattle.std.specs.Prelude.{◌≡◌, ◌<◌, ◌^◌, ℕ, List, Option, Some, length, slice_get}
 use Rattle.cell_graph.specs.Linked.{Linked, height_at, plain}
-use Rattle.deep_tables.specs.Circuits.{value_of}
 use Rattle.deep_tables.specs.Gates.{gates_of}
 use Rattle.deep_tables.specs.Nets.{tables_of}
 use Rattle.deep_tables.specs.Pins.{pins_of}
@@ -29,7 +28,7 @@ pub record IsNetlistOfCells (unit : ℕ) (d : Linked) (r : Rules) (layers : List
       (device_rules r) unit (height_at d)
   pub top_is : IsCircuitCell tables.cells top (plain d).top
 
--- each of these cells has fewer than 2^32 nets
-abbrev pub HaveFewNets : List (Option CellCircuit) → List ℕ → Type 0
-HaveFewNets circuits cells = (k cell : ℕ) → IsCircuitCell cells k cell
-    → length (value_of circuits cell).drawn < 2 ^ 32
+-- each cell has fewer than 2^32 nets
+abbrev pub HaveFewNets : List CellCircuit → Type 0
+HaveFewNets values = (k : ℕ) (v : CellCircuit) → slice_get values k ≡ Some v
+    → length v.drawn.items < 2 ^ 32

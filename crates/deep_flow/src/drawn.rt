@@ -1,8 +1,6 @@
 //! What is extracted over a layout's layers, nets, gates and pins: its netlist and its bad gates.
-ghost use Rattle.std.specs.Prelude.{◌≡◌, ◌↔◌, ◌<◌, ◌^◌, ℕ, length, slice_get};
-ghost use Rattle.std.specs.Prelude.{IfOk, IsSome, Some, true};
+ghost use Rattle.std.specs.Prelude.{◌≡◌, ◌↔◌, ◌<◌, ◌^◌, length, IfOk, true};
 ghost use Rattle.cell_graph.specs.Linked.{plain};
-ghost use Rattle.deep_tables.specs.Entries.{entry};
 ghost use Rattle.deep_tables.specs.Gates.{AreGates};
 ghost use Rattle.deep_tables.specs.Layers.{AreLayers};
 ghost use Rattle.deep_tables.specs.Nets.{AreNets};
@@ -17,12 +15,11 @@ ghost use Rattle.deep_flow.specs.Bad.{told_gates};
 ghost use Rattle.deep_flow.specs.Extracted.{HaveFewNets, IsNetlistOfCells};
 
 use crate::bad::bad_gates;
-use crate::circuits::find_circuits;
 use crate::gates::Gated;
-use crate::netlist::netlist;
+use crate::netlist::{netlist, own_circuits};
 use cell_graph::Design;
 use circuit_phase::circuit_cells;
-use deep_tables::{BadGate, Circuits, Pins};
+use deep_tables::{BadGate, CellCircuit, Pins};
 use job_board::{Crew, Gate};
 use list_base::{number, small};
 use net_model::Netlist;
@@ -67,13 +64,11 @@ fn are_few(drawn: &[bool]) -> bool
 }
 
 // Whether each of these cells has fewer than 2^32 nets.
-fn have_few_nets(circuits: &Circuits, cells: &[u32]) -> bool
-    requires { (k cell : ℕ) → slice_get cells.now k ≡ Some cell
-        → IsSome (entry circuits.now cell) }
-    ensures { (result ≡ true) ↔ HaveFewNets circuits.now cells.now }
+fn have_few_nets(values: &[CellCircuit]) -> bool
+    ensures { (result ≡ true) ↔ HaveFewNets values.now }
 {
-    for cell in cells {
-        if !are_few(circuits.drawn(*cell)) {
+    for value in values {
+        if !are_few(&value.drawn) {
             return false;
         }
     }
@@ -106,13 +101,13 @@ pub fn draw<R: Threads + Wait + Sync, G: Gate + Sync>(
     design.sound();
     let nets = &gated.nets;
     let gates = &gated.gates;
-    let circuits = find_circuits(alloc, design, rules, nets, pins, gates, unit_pm, crew)?;
+    let values = own_circuits(alloc, design, rules, nets, pins, gates, unit_pm, crew)?;
     let cells = circuit_cells(alloc, design, gates)?;
     number(cells.len())?;
-    if !have_few_nets(&circuits, &cells) {
+    if !have_few_nets(&values) {
         return Err(AllocError);
     }
-    let netlist = netlist(alloc, &circuits, &cells)?;
+    let netlist = netlist(alloc, values)?;
     let top = place_of(&cells, design.top());
     let bad = bad_gates(alloc, design, rules, gates)?;
     Ok(Drawn { netlist, top, bad })

@@ -1,41 +1,73 @@
-//! The netlist of the cells' circuits.
-ghost use Rattle.std.specs.Prelude.{◌≡◌, ◌++◌, ◌∷◌, [], ℕ, map, slice_get};
-ghost use Rattle.std.specs.Prelude.{IfOk, IsSome, OnOk, Some};
-ghost use Rattle.deep_tables.specs.Circuits.{IsNetlistIn, value_of};
-ghost use Rattle.net_model.specs.Rows.{plain_circuit, plain_netlist};
+//! The netlist of the cells' circuits, which are moved into it.
+ghost use Rattle.std.specs.Prelude.{◌≡◌, ◌++◌, filter_map, length, option_to_list, IfOk, OnOk};
+ghost use Rattle.cell_graph.specs.Linked.{plain};
+ghost use Rattle.circuit_phase.specs.Phase.{HasOwn};
+ghost use Rattle.deep_tables.specs.Circuits.{IsCellCircuit};
+ghost use Rattle.deep_tables.specs.Entries.{upward_cell};
+ghost use Rattle.deep_tables.specs.Gates.{AreGates};
+ghost use Rattle.deep_tables.specs.Laws.{AreJobs};
+ghost use Rattle.deep_tables.specs.Nets.{AreNets};
+ghost use Rattle.deep_tables.specs.Pins.{ArePins};
+ghost use Rattle.rule_layers.specs.Meaning.{wiring_of};
+ghost use Rattle.rule_text.specs.Seen.{rules_seen};
 
-use deep_tables::Circuits;
+use cell_graph::Design;
+use circuit_phase::CircuitPhase;
+use deep_tables::{CellCircuit, Gates, Nets, Pins};
+use job_board::Crew;
+use job_graph::level_values;
 use net_model::{Circuit, Netlist};
+use rule_text::RuleSet;
 use std::alloc::{AllocError, Global};
+use std::thread::Threads;
+
+/// The circuits of the reached cells in the design's order, over their nets, pins and gates, for a
+/// caller that moves them on: no table keeps them. The database unit is in picometres, at most
+/// 1,000,000. A cell is worked once, by 1 to 64 workers, with one answer for every number of them.
+/// An `Err` is want of memory.
+pub(crate) fn own_circuits<R: Threads + Sync, G>(
+    alloc: Global,
+    design: &Design,
+    rules: &RuleSet,
+    nets: &Nets,
+    pins: &Pins,
+    gates: &Gates,
+    unit_pm: u32,
+    crew: &Crew<R, G>,
+) -> Result<Vec<CellCircuit>, AllocError>
+    requires own { HasOwn (plain design.now) (wiring_of (rules_seen rules.now)) }
+    requires nets { AreNets (plain design.now) (rules_seen rules.now) nets.now }
+    requires pins { ArePins (plain design.now) (rules_seen rules.now) pins.now }
+    requires gates { AreGates (plain design.now) (rules_seen rules.now) gates.now }
+    ensures count { IfOk result (λ v. length v.items ≡ length design.now.order) }
+    ensures right { IfOk result (λ v. AreJobs (upward_cell design.now) design.now
+        (IsCellCircuit unit_pm (plain design.now) (rules_seen rules.now)) v.items) }
+{
+    design.sound();
+    let phase = CircuitPhase::new(alloc, design, rules, nets, pins, gates, unit_pm)?;
+    let values = level_values(crew.rt, alloc, &phase, crew.workers)?;
+    Ok(values)
+}
 
 // Adds the circuit of a cell that has one.
-fn push_circuit(
-    alloc: Global,
-    circuits: &Circuits,
-    cell: u32,
-    out: &mut Vec<Circuit>,
-) -> Result<(), AllocError>
-    requires { IsSome (value_of circuits.now cell).circuit }
-    ensures { OnOk result (map Some (map plain_circuit out.new.items)
-        ≡ map Some (map plain_circuit out.old.items)
-        ++ (value_of circuits.now cell).circuit ∷ []) }
+fn push_circuit(value: CellCircuit, out: &mut Vec<Circuit>) -> Result<(), AllocError>
+    ensures { OnOk result (out.new.items ≡ out.old.items ++ option_to_list value.circuit) }
 {
-    if let Some(circuit) = circuits.of(cell) {
-        let copy = circuit.try_clone(alloc)?;
-        out.push(copy)?;
+    let CellCircuit { circuit, .. } = value;
+    if let Some(circuit) = circuit {
+        out.push(circuit)?;
     }
     Ok(())
 }
 
-/// The circuits of these cells, in their order. Linear in what is copied.
-pub fn netlist(alloc: Global, circuits: &Circuits, cells: &[u32]) -> Result<Netlist, AllocError>
-    requires { (k cell : ℕ) → slice_get cells.now k ≡ Some cell
-        → IsSome (value_of circuits.now cell).circuit }
-    ensures { IfOk result (λ n. IsNetlistIn circuits.now cells.now (plain_netlist n)) }
+/// The circuits of the cells that have one, in their order. They are moved, not copied. Linear in
+/// the cells.
+pub fn netlist(alloc: Global, values: Vec<CellCircuit>) -> Result<Netlist, AllocError>
+    ensures { IfOk result (λ n. n.circuits.items ≡ filter_map (λ v. v.circuit) values.items) }
 {
-    let mut out = Vec::new(alloc);
-    for cell in cells {
-        push_circuit(alloc, circuits, *cell, &mut out)?;
+    let mut circuits = Vec::new(alloc);
+    for value in values {
+        push_circuit(value, &mut circuits)?;
     }
-    Ok(Netlist { circuits: out })
+    Ok(Netlist { circuits })
 }

@@ -37,7 +37,7 @@ one_level d l m a b cell =
     let y = level_below d m l b a (suc (m cell)) cell (omega arith) in
     omega arith
 
-not_before : (l : ℕ → ℕ) (a b : ℕ) → IsCellBefore l a b → IsCellBefore l b a → ⊥
+pub not_before : (l : ℕ → ℕ) (a b : ℕ) → IsCellBefore l a b → IsCellBefore l b a → ⊥
 not_before l a b (inl x) (inl y) = omega arith
 not_before l a b (inl x) (inr y) = let e = y.0 in omega arith
 not_before l a b (inr x) (inl y) = let e = x.0 in omega arith

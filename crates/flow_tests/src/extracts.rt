@@ -370,19 +370,20 @@ static THREE: [Drawn; 4] = [
     ),
 ];
 
-// In each of the seven phases two workers are at work on two of the three cells at once.
+// In each of the six phases before circuits, whose jobs a board hands out, two workers are at work
+// on two of the three cells at once.
 #[test]
 fn both_workers_enter(rt: HostRuntime) -> Result<(), Fail> {
     let alloc: Global = rt.alloc();
     let layout = stream_of(alloc, &THREE)?;
     let gate = Abreast::new();
     let found = extracted(alloc, &layout, NMOS, &Crew::new(&rt, 2, &gate))?;
-    let seven = Visits {
-        first: 7,
-        second: 7,
+    let six = Visits {
+        first: 6,
+        second: 6,
         late: 0,
     };
-    assert_eq!(rt; gate.visits(), seven);
+    assert_eq!(rt; gate.visits(), six);
     let text: &[u8] = b"* lvs netlist
 .SUBCKT K VSS
 M1 \\$3 \\$1 \\$2 VSS NMOS L=0.25U W=1.5U

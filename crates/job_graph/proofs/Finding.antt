@@ -1,6 +1,6 @@
 -- Values that are found one by one.
-use Rattle.std.proofs.Common.{◌≡◌, ◌≢◌, ℕ, zero, suc, ◌<◌, List, [], ◌∷◌, true, length, set, map, replicate, All, Option, Some, None, IfSome, IsSome, IsSomeAnd, slice_get, refl, sym, ap, ◌∙◌, subst, arith, get_or-set_same, get_or-set_other, length-set}
-use Rattle.std.proofs.lemmas.List.{length-map, length-replicate}
+use Rattle.std.proofs.Common.{◌≡◌, ◌≢◌, ℕ, zero, suc, ◌<◌, List, [], ◌∷◌, ◌++◌, append_assoc, true, length, set, map, replicate, All, Option, Some, None, IfSome, IsSome, IsSomeAnd, slice_get, refl, sym, ap, ◌∙◌, subst, arith, get_or-set_same, get_or-set_other, length-set}
+use Rattle.std.proofs.lemmas.List.{length-map, length-replicate, map-append}
 use Rattle.std.proofs.lemmas.List.Elements.{All-head, All-tail}
 use Rattle.std.proofs.Math.Decide.{ℕ_discrete}
 use mathlib.Core.Logic.{dite}
@@ -80,3 +80,11 @@ none_found is_defined key graph n e = record { count = length-replicate n None �
     nothing zero job = refl
     nothing (suc n) zero = refl
     nothing (suc n) (suc job) = nothing n job
+
+-- what was found is what was taken and what is left
+pub one_more : {T : Type 0} (all : List (Option T)) (xs ys : List T) (x : T) (rest tail : List (Option T)) → all ≡ map (λ v. Some v) xs ++ rest → rest ≡ Some x ∷ tail → ys ≡ xs ++ x ∷ [] → all ≡ map (λ v. Some v) ys ++ tail
+one_more all xs ys x rest tail h s e = h ∙ ap (λ r. map (λ v. Some v) xs ++ r) s ∙ sym (ap (λ zs. map (λ v. Some v) zs ++ tail) e ∙ ap (λ zs. zs ++ tail) (map-append (λ v. Some v) xs (x ∷ [])) ∙ append_assoc (map (λ v. Some v) xs) (Some x ∷ []) tail)
+
+-- and what is left was found
+pub tail_found : {T : Type 0} (rest tail : List (Option T)) (x : T) → rest ≡ Some x ∷ tail → ((k : ℕ) → k < length rest → IsFound rest k) → (k : ℕ) → k < length tail → IsFound tail k
+tail_found rest tail x s h k l = (subst (λ r. (k : ℕ) → k < length r → IsFound r k) s h) (suc k) (omega arith)

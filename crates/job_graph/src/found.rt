@@ -53,6 +53,21 @@ impl<T: Drop> Found<T> {
         self.values[job as usize] = Some(value);
     }
 
+    /// The values in the order of the jobs, where each was found. They are moved.
+    pub(crate) fn into_values(self, alloc: Global) -> Result<Vec<T>, AllocError>
+        requires { (job : ℕ) → job < length self → IsFound self job }
+        ensures { IfOk result (λ v. self ≡ map (λ x. Some x) v.items) }
+    {
+        let mut values = Vec::with_capacity(alloc, self.values.len())?;
+        for value in self.values {
+            let Some(value) = value else {
+                unreachable!();
+            };
+            values.push(value)?;
+        }
+        Ok(values)
+    }
+
     /// The results, where each value was found.
     pub(crate) fn into_results<R: Wait>(
         self,

@@ -17,4 +17,4 @@ pub use machine::{Event, JobState, Step, machine_laws};
 pub use notes::{CellNote, set_cell};
 pub use phase::{Defined, Phase, Reads};
 pub use results::Results;
-pub use run::run_levels;
+pub use run::{level_values, run_levels};

@@ -182,3 +182,20 @@ pub fn run_levels<R: Threads + Wait + Sync, P: Phase + Sync>(
     let (found, _book) = work_levels(rt, alloc, phase, workers, &levels)?;
     found.into_results(rt, alloc)
 }
+
+/// The same values for a caller that moves them on: they stand in a list of their own, in the order
+/// of the jobs, and no other thread reads them. O(jobs + inputs) beside the work itself.
+pub fn level_values<R: Threads + Sync, P: Phase + Sync>(
+    rt: &R,
+    alloc: Global,
+    phase: &P,
+    workers: usize,
+) -> Result<Vec<P::Out>, AllocError>
+    requires { (1 ≤ workers) × (workers ≤ 64) }
+    ensures { IfOk result
+        (λ v. AreDefined P.Out.is_defined (P.key phase.now) (P.graph phase.now) v.items) }
+{
+    let levels = levels(alloc, phase.graph())?;
+    let (found, _book) = work_levels(rt, alloc, phase, workers, &levels)?;
+    found.into_values(alloc)
+}

@@ -1,4 +1,4 @@
-//! Two workers at once, in each phase of `extract`.
+//! Two workers at once, in each phase of `extract` whose jobs a board hands out.
 
 use crate::commands::{EXTRACT, Inputs, NONE, ends, holds, run_through};
 use crate::drawn::Item::{Placed, Rect};
@@ -41,8 +41,8 @@ X3 VSS N
 .END
 ";
 
-// In each of the seven phases over the cells two workers are at work on two of the three cells at
-// once.
+// In each of the six phases before circuits, whose jobs a board hands out, two workers are at work
+// on two of the three cells at once.
 #[test]
 fn both_workers_enter(rt: HostRuntime) -> Result<(), Fail> {
     let alloc = rt.alloc();
@@ -56,12 +56,12 @@ fn both_workers_enter(rt: HostRuntime) -> Result<(), Fail> {
     words.extend_from_slice(&["--workers", "2"])?;
     let gate = Abreast::new();
     let ran = run_through(&rt, alloc, inputs, &words, NONE, &gate)?;
-    let seven = Visits {
-        first: 7,
-        second: 7,
+    let six = Visits {
+        first: 6,
+        second: 6,
         late: 0,
     };
-    assert_eq!(rt; gate.visits(), seven);
+    assert_eq!(rt; gate.visits(), six);
     ends(
         &rt,
         &ran,

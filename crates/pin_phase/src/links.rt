@@ -61,7 +61,7 @@ fn busy_nets(alloc: Global, nets: &CellNets, gates: &[Gate]) -> Result<Vec<bool>
 fn no_links(alloc: Global, cells: u32) -> Result<Vec<Vec<Link>>, AllocError>
     ensures { IfOk result (λ v. HaveNone cells (lists_of v.items)) }
 {
-    let mut lists = Vec::new(alloc);
+    let mut lists = Vec::with_capacity(alloc, cells as usize)?;
     for _ in 0..cells {
         lists.push(Vec::new(alloc))?;
     }

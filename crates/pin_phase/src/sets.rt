@@ -30,7 +30,7 @@ impl NetTags {
     pub fn new(alloc: Global, nets: u32) -> Result<NetTags, AllocError>
         ensures { IfOk result (HaveNone nets) }
     {
-        let mut lists = Vec::new(alloc);
+        let mut lists = Vec::with_capacity(alloc, nets as usize)?;
         for _ in 0..nets {
             lists.push(Vec::new(alloc))?;
         }
@@ -53,7 +53,7 @@ impl NetTags {
         ensures each { IfOk result (λ v. (x : ℕ) → (get_or v.items x false ≡ true)
             ↔ HasAny self.now x) }
     {
-        let mut marks = Vec::new(alloc);
+        let mut marks = Vec::with_capacity(alloc, self.lists.len())?;
         for tags in &self.lists {
             marks.push(!tags.is_empty())?;
         }
@@ -64,7 +64,7 @@ impl NetTags {
     pub fn bases(self, alloc: Global) -> Result<Vec<Option<Name>>, AllocError>
         ensures { IfOk result (λ names. AreBasesOf self (map name_in names.items)) }
     {
-        let mut names = Vec::new(alloc);
+        let mut names = Vec::with_capacity(alloc, self.lists.len())?;
         for tags in self.lists {
             let name = base_name(alloc, tags)?;
             names.push(name)?;

@@ -1,25 +1,27 @@
-use Rattle.std.proofs.Common.{◌≡◌, Some, slice_get, get_or, arith, refl}
+use Rattle.std.proofs.Common.{◌≡◌, ◌<◌, ◌^◌, ◌∙◌, List, Bool, Some, slice_get, length, arith, refl, sym, ap, subst}
 use Rattle.std.proofs.lemmas.Bool.{false≢true}
 use Rattle.std.proofs.lemmas.Option.{slice_get-get_or, slice_get_within}
-use Rattle.deep_flow.proofs.Few.{few_more, not_few}
+use Rattle.deep_flow.proofs.Few.{few_more}
 use Rattle.deep_flow.proofs.drawn.have_few_nets.Goals as goal
 
 pub returns-then-not-are_few : goal.returns-then-not-are_few
 returns-then-not-are_few c =
-    let cells = c.args.cells.now in
-    let k = c.loop-cell.cell-index in
-    let at : slice_get cells k ≡ Some (get_or cells k 0) = slice_get-get_or cells k 0 (omega arith) in
-    ((λ e. absurd (false≢true e)), (λ h. c.if-not-are_few.ensures.1 (not_few c.args.circuits.now cells k (get_or cells k 0) c.drawn.result.now at c.drawn.ensures h)))
+    let values = c.args.values.now in
+    let k = c.loop-value.value-index in
+    let v = c.value-item.result in
+    let at : slice_get values k ≡ Some v = slice_get-get_or values k v (omega arith) ∙ ap Some (sym c.value-item.is) in
+    ((λ e. absurd (false≢true e)), (λ h. c.if-not-are_few.ensures.1 (subst (λ (l : List Bool). length l < 2 ^ 32) (sym c.deref.ensures.value) (h k v at))))
 
-pub loop-cell-preserved : goal.loop-cell-preserved
-loop-cell-preserved c =
-    let cells = c.args.cells.now in
-    let k = c.loop-cell.cell-index in
-    let at : slice_get cells k ≡ Some (get_or cells k 0) = slice_get-get_or cells k 0 (omega arith) in
-    few_more c.args.circuits.now cells k (get_or cells k 0) c.drawn.result.now at c.drawn.ensures (c.if-not-are_few.ensures.0 refl) c.loop-cell.invariant
+pub loop-value-preserved : goal.loop-value-preserved
+loop-value-preserved c =
+    let values = c.args.values.now in
+    let k = c.loop-value.value-index in
+    let v = c.value-item.result in
+    let at : slice_get values k ≡ Some v = slice_get-get_or values k v (omega arith) ∙ ap Some (sym c.value-item.is) in
+    few_more values k v at (subst (λ (l : List Bool). length l < 2 ^ 32) c.deref.ensures.value (c.if-not-are_few.ensures.0 refl)) c.loop-value.invariant
 
 pub returns : goal.returns
 returns c = (
-  (λ e k cell is. c.loop-cell.invariant k cell (let lt = slice_get_within c.args.cells.now k cell is in omega (arith, lt)) is),
+  (λ e k v is. c.loop-value.invariant k v (let lt = slice_get_within c.args.values.now k v is in omega (arith, lt)) is),
   (λ h. refl),
 )

@@ -1,17 +1,17 @@
-use Rattle.std.proofs.Common.{get_or}
-use Rattle.std.proofs.lemmas.Option.{slice_get-get_or}
-use Rattle.deep_flow.proofs.Copied.{held_more, netlist_in}
+use Rattle.std.proofs.Common.{rules, ◌≡◌, ◌∷◌, [], arith}
+use Rattle.pin_phase.proofs.Marking.{nothing}
+use Rattle.deep_flow.proofs.Moved.{moved, moved_all, moved_more}
 use Rattle.deep_flow.proofs.netlist.netlist.Goals as goal
 
-pub push_circuit-requires : goal.push_circuit-requires
-push_circuit-requires c =
-    let n = c.loop-cell.cell-index in
-    c.requires n (get_or c.args.cells.now n 0) (slice_get-get_or c.args.cells.now n 0 c.loop-cell-test.true)
-
-pub loop-cell-preserved : goal.loop-cell-preserved
-loop-cell-preserved c =
-    held_more c.args.circuits.now c.args.cells.now c.loop-cell.cell-index c.loop-cell.out.items c.push_circuit.new.out.items c.loop-cell-test.true c.loop-cell.invariant c.in_ok-push_circuit.ensures
+pub loop-value-preserved : goal.loop-value-preserved
+loop-value-preserved c =
+    let rest = c.loop-value.value-iterator.rest.items in let tail = c.next.new.self.rest.items in
+    let s : rest ≡ c.in-Some.value ∷ tail = search rules in
+    moved_more (moved c.args.values.items) c.loop-value.circuits.items c.push_circuit.new.out.items rest tail c.in-Some.value s c.in_ok-push_circuit.ensures c.loop-value.invariant
 
 pub returns : goal.returns
 returns c =
-    netlist_in c.args.circuits.now c.args.cells.now c.loop-cell.cell-index c.loop-cell.out.items c.loop-cell-test.false c.loop-cell.invariant
+    let rest = c.loop-value.value-iterator.rest.items in
+    let long = c.loop-value.value-iterator.rest.ok.0 in let none = c.in-None.ensures.steps.0 in
+    let s : rest ≡ [] = nothing rest (omega (arith, long, none)) in
+    moved_all (moved c.args.values.items) c.loop-value.circuits.items rest s c.loop-value.invariant

@@ -7,7 +7,7 @@ use Rattle.pin_phase.proofs.Tagging.{none_more, none_yet}
 use Rattle.pin_phase.proofs.links.no_links.Goals as goal
 
 pub loop-init : goal.loop-init
-loop-init c = none_yet (λ (v : Vec Link). v.items) c.new-lists.result.items c.new-lists.ensures.items
+loop-init c = none_yet (λ (v : Vec Link). v.items) c.in_ok-lists.lists.items c.in_ok-lists.ensures.items
 
 pub loop-preserved : goal.loop-preserved
 loop-preserved c =

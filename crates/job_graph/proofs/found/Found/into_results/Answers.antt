@@ -1,17 +1,11 @@
-use Rattle.std.proofs.Common.{◌≡◌, ◌<◌, ℕ, suc, List, [], ◌∷◌, ◌++◌, length, map, Option, Some, ap, ◌∙◌, sym, subst, arith, append_assoc}
+use Rattle.std.proofs.Common.{◌≡◌, [], ◌∷◌, ◌++◌, Some, ap, ◌∙◌}
 use Rattle.std.proofs.lemmas.List.{map-append}
 use Rattle.once_cell.specs.Once.{cell_name}
 use Rattle.job_graph.specs.declared.notes.CellNote.{CellNote}
 use Rattle.job_graph.specs.Notes.{known_values}
-use Rattle.job_graph.specs.Sharing.{IsFound}
+use Rattle.job_graph.proofs.Finding.{one_more, tail_found}
 use Rattle.job_graph.proofs.Knowing.{names_more}
 use Rattle.job_graph.proofs.found.Found.into_results.Goals as goal
-
-one_more : {T : Type 0} (all : List (Option T)) (xs ys : List T) (x : T) (rest tail : List (Option T)) → all ≡ map (λ v. Some v) xs ++ rest → rest ≡ Some x ∷ tail → ys ≡ xs ++ x ∷ [] → all ≡ map (λ v. Some v) ys ++ tail
-one_more all xs ys x rest tail h s e = h ∙ ap (λ r. map (λ v. Some v) xs ++ r) s ∙ sym (ap (λ zs. map (λ v. Some v) zs ++ tail) e ∙ ap (λ zs. zs ++ tail) (map-append (λ v. Some v) xs (x ∷ [])) ∙ append_assoc (map (λ v. Some v) xs) (Some x ∷ []) tail)
-
-tail_found : {T : Type 0} (rest tail : List (Option T)) (x : T) → rest ≡ Some x ∷ tail → ((k : ℕ) → k < length rest → IsFound rest k) → (k : ℕ) → k < length tail → IsFound tail k
-tail_found rest tail x s h k l = (subst (λ r. (k : ℕ) → k < length r → IsFound r k) s h) (suc k) (omega arith)
 
 pub loop-value-preserved : goal.loop-value-preserved
 loop-value-preserved g c =

@@ -4,7 +4,7 @@ use Rattle.pin_phase.proofs.Tagging.{none_more, none_yet}
 use Rattle.pin_phase.proofs.sets.NetTags.new.Goals as goal
 
 pub loop-init : goal.loop-init
-loop-init c = none_yet (λ (v : Vec (List ℕ) Global). v.items) c.new-lists.result.items c.new-lists.ensures.items
+loop-init c = none_yet (λ (v : Vec (List ℕ) Global). v.items) c.in_ok-lists.lists.items c.in_ok-lists.ensures.items
 
 pub loop-preserved : goal.loop-preserved
 loop-preserved c =
