@@ -55,14 +55,15 @@ fn has_needed(needed: &[Flag], items: &[Item<'_>]) -> bool
 }
 
 /// Whether no option stands twice, none but the needed ones and the free ones stand there, and all
-/// that are needed do.
+/// that are needed do. Each option is looked at once for each other one, of which there are few.
 pub fn fits(needed: &[Flag], free: &[Flag], items: &[Item<'_>]) -> bool
     ensures { result ≡ fits needed.now free.now (seen_all items.now) }
 {
     are_once(items) && has_known(needed, free, items) && has_needed(needed, items)
 }
 
-/// The path that two options give, where at least one of them writes it.
+/// The path that two options give, where at least one of them writes it. Each pair of options is
+/// looked at; the path is copied.
 pub fn shared_path(alloc: Global, items: &[Item<'_>]) -> Result<Option<String>, AllocError>
     ensures { IfOk result (λ p. option_map string_bytes p ≡ shared (seen_all items.now)) }
 {
@@ -75,7 +76,8 @@ pub fn shared_path(alloc: Global, items: &[Item<'_>]) -> Result<Option<String>, 
     }
 }
 
-/// The path that the option gives; an empty one where it isn't there.
+/// The path that the option gives; an empty one where it isn't there. One pass over the options,
+/// and a copy of the path.
 pub fn path(alloc: Global, items: &[Item<'_>], flag: Flag) -> Result<String, AllocError>
     ensures { IfOk result (λ p. string_bytes p ≡ path flag (seen_all items.now)) }
 {
@@ -85,7 +87,8 @@ pub fn path(alloc: Global, items: &[Item<'_>], flag: Flag) -> Result<String, All
     }
 }
 
-/// The path that the option gives, where it is there.
+/// The path that the option gives, where it is there. One pass over the options, and a copy of the
+/// path.
 pub fn given_path(
     alloc: Global,
     items: &[Item<'_>],
@@ -102,7 +105,7 @@ pub fn given_path(
     }
 }
 
-/// The name of the top, where one is given.
+/// The name of the top, where one is given. One pass over the options, and a copy of the name.
 pub fn top(alloc: Global, items: &[Item<'_>]) -> Result<Option<Name>, AllocError>
     requires { AreValues (seen_all items.now) }
     ensures { IfOk result (λ name. name ≡ value_of Flag.Top (seen_all items.now)) }
@@ -113,7 +116,8 @@ pub fn top(alloc: Global, items: &[Item<'_>]) -> Result<Option<Name>, AllocError
     }
 }
 
-/// How many workers the options ask for: 1 to 64.
+/// How many workers the options ask for: 1 to 64, one where they don't say; nothing where they ask
+/// for another number. One pass over the options.
 pub fn workers(items: &[Item<'_>]) -> Option<usize>
     ensures count { result ≡ workers_of (seen_all items.now) }
     ensures within { IfSome result (λ n. (1 ≤ n) × (n ≤ 64)) }

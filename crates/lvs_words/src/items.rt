@@ -80,7 +80,8 @@ fn next_item<'a>(word: &'a str, more: &'a [String]) -> Option<(Item<'a>, &'a [St
     Some((item, behind))
 }
 
-/// The options that the words spell, in their order.
+/// The options that the words spell, in their order. `Refused` where a word is no option, or has
+/// no value of its kind. One pass over the words; an entry in memory for each option.
 pub fn read_items<'a>(alloc: Global, words: &'a [String]) -> Result<Vec<Item<'a>>, WordFault>
     ensures found { IfOk result (λ found. items (map string_bytes words.now)
         ≡ Some (seen_all found.items)) }
@@ -102,7 +103,7 @@ pub fn read_items<'a>(alloc: Global, words: &'a [String]) -> Result<Vec<Item<'a>
     Ok(found)
 }
 
-/// The value of the option.
+/// The value of the first option of this name. One pass over the options.
 pub fn value_of<'a>(items: &[Item<'a>], flag: Flag) -> Option<&'a str>
     ensures none { IsNone result → value_of flag (seen_all items.now) ≡ None }
     ensures some { IfSome result (λ v. value_of flag (seen_all items.now) ≡ Some v.now) }
@@ -117,7 +118,7 @@ pub fn value_of<'a>(items: &[Item<'a>], flag: Flag) -> Option<&'a str>
     None
 }
 
-/// Whether no option stands twice.
+/// Whether no option stands twice. Each pair of options is looked at.
 pub fn are_once(items: &[Item<'_>]) -> bool
     ensures { result ≡ are_once (seen_all items.now) }
 {
@@ -154,7 +155,8 @@ fn clashes_with_any(item: &Item<'_>, others: &[Item<'_>]) -> bool
     false
 }
 
-/// The first path that a later option has too, where at least one of the two is written.
+/// The first path that a later option has too, where at least one of the two is written. Each pair
+/// of options is looked at.
 pub fn shared<'a>(items: &[Item<'a>]) -> Option<&'a str>
     ensures none { IsNone result → shared (seen_all items.now) ≡ None }
     ensures some { IfSome result (λ p. shared (seen_all items.now) ≡ Some p.now) }
