@@ -19,13 +19,25 @@ use tile_index::positions_in;
 
 /// Linked cells: each reference names a cell, no cell stands below itself, and hulls hold what is
 /// below.
-#[derive(Drop)]
 pub struct Design {
     cells: Vec<CellPart>,
     top: u32,
     order: Vec<u32>,
     nothing: RectSet,
     indexes: Vec<CellIndex>,
+}
+
+// Written out, so that its owners drop it by one call.
+impl Drop for Design {
+    fn drop(self) {
+        let Design {
+            cells: _,
+            top: _,
+            order: _,
+            nothing: _,
+            indexes: _,
+        } = self;
+    }
 }
 
 impl Model for Design {

@@ -56,9 +56,15 @@ pub fn key_of<'a>(row: &'a DeviceRow, place: usize) -> DeviceKey<'a>
 }
 
 /// The keys of the groups of alike transistors, in the order of the groups.
-#[derive(Drop)]
 pub struct Keys<'a> {
     keys: IndexSet<DeviceKey<'a>>,
+}
+
+// Written out, so that its owners drop it by one call.
+impl Drop for Keys<'_> {
+    fn drop(self) {
+        let Keys { keys: _ } = self;
+    }
 }
 
 impl<'a> Model for Keys<'a> {

@@ -10,9 +10,15 @@ use std::alloc::{AllocError, Global};
 use std::marker::Model;
 
 /// Layers in the order in which they were added, each once. A layer's number is its place.
-#[derive(Drop)]
 pub struct KeyTable {
     keys: IndexSet<LayerKey>,
+}
+
+// Written out, so that its owners drop it by one call.
+impl Drop for KeyTable {
+    fn drop(self) {
+        let KeyTable { keys: _ } = self;
+    }
 }
 
 impl Model for KeyTable {

@@ -43,10 +43,19 @@ pub struct Exposed {
 }
 
 /// Such sets as they are found, and the position of each by its cell.
-#[derive(Drop)]
 pub struct ExposedLists {
     pub lists: Vec<Exposed>,
     pub positions: HashMap<u32, usize>,
+}
+
+// Written out, so that its owners drop it by one call.
+impl Drop for ExposedLists {
+    fn drop(self) {
+        let ExposedLists {
+            lists: _,
+            positions: _,
+        } = self;
+    }
 }
 
 impl ExposedLists {

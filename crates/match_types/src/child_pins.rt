@@ -8,10 +8,16 @@ use std::collections::HashMap;
 
 /// For each pair the position of the right pin for each left pin, or nothing where the pair isn't
 /// matched or not yet compared; and whether names tell the pins of the pair above apart.
-#[derive(Drop)]
 pub struct ChildPins {
     lists: HashMap<u32, Vec<u32>>,
     told: bool,
+}
+
+// Written out, so that its owners drop it by one call.
+impl Drop for ChildPins {
+    fn drop(self) {
+        let ChildPins { lists: _, told: _ } = self;
+    }
 }
 
 impl ChildPins {

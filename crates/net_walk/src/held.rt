@@ -22,10 +22,19 @@ pub struct Held {
 }
 
 /// Such lists as they are found, and the position of each by its cell and its conductor.
-#[derive(Drop)]
 pub struct HeldLists {
     pub lists: Vec<Held>,
     pub positions: HashMap<(u32, u32), usize>,
+}
+
+// Written out, so that its owners drop it by one call.
+impl Drop for HeldLists {
+    fn drop(self) {
+        let HeldLists {
+            lists: _,
+            positions: _,
+        } = self;
+    }
 }
 
 impl HeldLists {

@@ -7,7 +7,7 @@ ghost use Rattle.rule_text.specs.Rules.{uses_of, is_definition, statement_of, is
 ghost use Rattle.rule_text.specs.Seen.{words as words_seen, statement as statement_seen};
 ghost use Rattle.rule_text.specs.Seen.{statements, more as more_seen};
 ghost use Rattle.rule_text.specs.Filled.{IsFilled, class_of};
-ghost use Rattle.rule_text.specs.Reading.{lesser};
+ghost use Rattle.rule_text.specs.Reading.{lesser, loose_of};
 
 use crate::devices::devices_of;
 use crate::fault::RuleFault;
@@ -677,6 +677,30 @@ impl Reader {
         Ok(())
     }
 
+    // Whether conductors connect each device.
+    fn check_connected(&self, alloc: Global) -> Result<(), RuleFault>
+        requires { IsReady self.now }
+        ensures ok { IfOk result (λ _. loose_of (rules_seen self.now.rules)
+            self.now.device_lines.items self.now.more_lines.items ≡ None) }
+        ensures fault { IfErr result (λ e.
+            SaysFirst e (closed self.now.device_lines.items self.now.more_lines.items
+            (Ok (rules_seen self.now.rules)))) }
+    {
+        let conductors = self.rules.conductors(alloc)?;
+        let one = self.rules.first_loose(&conductors, &self.device_lines);
+        let other = self.rules.first_loose_more(&conductors, &self.more_lines);
+        match lesser(one, other) {
+            Some(line) => Err(RuleFault::NotConductor(line)),
+            None => Ok(()),
+        }
+    }
+
+    fn into_rules(self) -> RuleSet
+        ensures { result ≡ self.rules }
+    {
+        self.rules
+    }
+
     /// The rules, where each device is connected in the end.
     pub fn close(self, alloc: Global) -> Result<RuleSet, RuleFault>
         requires { IsReady self }
@@ -688,12 +712,9 @@ impl Reader {
             SaysFirst e (closed self.device_lines.items self.more_lines.items
             (Ok (rules_seen self.rules)))) }
     {
-        let conductors = self.rules.conductors(alloc)?;
-        let one = self.rules.first_loose(&conductors, &self.device_lines);
-        let other = self.rules.first_loose_more(&conductors, &self.more_lines);
-        match lesser(one, other) {
-            Some(line) => Err(RuleFault::NotConductor(line)),
-            None => Ok(self.rules),
-        }
+        let connected = self.check_connected(alloc);
+        let rules = self.into_rules();
+        connected?;
+        Ok(rules)
     }
 }

@@ -66,7 +66,6 @@ pub enum MoreRule {
 }
 
 /// The rules of a rule file, each list in the order of the file. Layers are numbers of names.
-#[derive(Drop)]
 pub struct RuleSet {
     pub names: Vec<LayerRule>,
     pub outputs: Vec<Output>,
@@ -81,6 +80,27 @@ pub struct RuleSet {
     pub tells_pins: bool,
     pub combine: bool,
     pub max_guesses: u32,
+}
+
+// Written out, so that its owners drop it by one call.
+impl Drop for RuleSet {
+    fn drop(self) {
+        let RuleSet {
+            names: _,
+            outputs: _,
+            connects: _,
+            globals: _,
+            devices: _,
+            more: _,
+            same: _,
+            flat_layouts: _,
+            flat_schematics: _,
+            flattens_unmatched: _,
+            tells_pins: _,
+            combine: _,
+            max_guesses: _,
+        } = self;
+    }
 }
 
 impl RuleSet {

@@ -11,9 +11,15 @@ use std::alloc::{AllocError, Global};
 use std::marker::Model;
 
 /// Texts in order of first sight, found without a scan.
-#[derive(Drop)]
 pub struct TextTable {
     texts: IndexSet<Vec<u8>>,
+}
+
+// Written out, so that its owners drop it by one call.
+impl Drop for TextTable {
+    fn drop(self) {
+        let TextTable { texts: _ } = self;
+    }
 }
 
 impl Model for TextTable {
@@ -55,9 +61,15 @@ impl TextTable {
 }
 
 /// Layers in order of first sight, found without a scan.
-#[derive(Drop)]
 pub struct KeyTable {
     keys: IndexSet<LayerKey>,
+}
+
+// Written out, so that its owners drop it by one call.
+impl Drop for KeyTable {
+    fn drop(self) {
+        let KeyTable { keys: _ } = self;
+    }
 }
 
 impl Model for KeyTable {

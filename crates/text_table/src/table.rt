@@ -8,9 +8,15 @@ use std::alloc::{AllocError, Global};
 use std::marker::Model;
 
 /// Texts in order of first sight, each once. A look-up takes the time of one hash of the text.
-#[derive(Drop)]
 pub struct TextTable {
     texts: IndexSet<Vec<u8>>,
+}
+
+// Written out, so that its owners drop it by one call.
+impl Drop for TextTable {
+    fn drop(self) {
+        let TextTable { texts: _ } = self;
+    }
 }
 
 impl Model for TextTable {
@@ -79,6 +85,7 @@ impl TextTable {
     pub fn into_texts(self, alloc: Global) -> Result<Vec<Vec<u8>>, AllocError>
         ensures { IfOk result (λ texts. map (λ text. text.items) texts.items ≡ self) }
     {
-        self.texts.into_iter().collect(alloc)
+        let TextTable { texts } = self;
+        texts.into_iter().collect(alloc)
     }
 }

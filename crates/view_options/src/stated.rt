@@ -13,7 +13,7 @@ use std::alloc::Global;
 
 /// The files that the words name, the name of the layout's top, the number of workers, and the path
 /// of the database, where it is an input too.
-#[derive(Debug, Drop)]
+#[derive(Debug)]
 pub struct Task {
     pub layout: String,
     pub rules: String,
@@ -23,6 +23,22 @@ pub struct Task {
     pub top: Option<Name>,
     pub workers: usize,
     pub shared: Option<String>,
+}
+
+// Written out, so that its owners drop it by one call.
+impl Drop for Task {
+    fn drop(self) {
+        let Task {
+            layout: _,
+            rules: _,
+            schematic: _,
+            database: _,
+            page: _,
+            top: _,
+            workers: _,
+            shared: _,
+        } = self;
+    }
 }
 
 // What these options ask for.
