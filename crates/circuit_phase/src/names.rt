@@ -1,7 +1,10 @@
 //! Names of nets and of circuits, each once.
-ghost use Rattle.std.specs.Prelude.{◌≡◌, ◌<◌, ◌++◌, if◌then◌else◌, [], get_or, length, IfOk};
+ghost use Rattle.std.specs.Prelude.{◌≡◌, ◌<◌, ◌++◌, if◌then◌else◌, [], ◌∷◌, get_or};
+ghost use Rattle.std.specs.Prelude.{length, IfOk, OnOk};
 ghost use Rattle.flat_layout.specs.Names.{circuit_ending, circuit_names, circuit_needs, has_two};
 ghost use Rattle.flat_layout.specs.Names.{net_ending, net_names, net_needs};
+ghost use Rattle.net_names.specs.Folding.{folded_bytes};
+ghost use Rattle.text_table.specs.Texts.{with_text};
 ghost use Rattle.circuit_phase.specs.Names.{folded_base, folded_bases, folded_names};
 
 use net_names::{Name, folded};
@@ -91,6 +94,25 @@ fn folded_base(alloc: Global, base: Option<&Name>) -> Result<Vec<u8>, AllocError
     }
 }
 
+// Adds the name of the next net, by its base name.
+fn push_net_name(
+    alloc: Global,
+    base: Option<&Name>,
+    number: usize,
+    earlier: &mut TextTable,
+    names: &mut Vec<Name>,
+) -> Result<(), AllocError>
+    ensures names { OnOk result (names.new.items ≡ names.old.items
+        ++ (if net_needs earlier.old (folded_base base.entry)
+        then folded_base base.entry ++ net_ending number else folded_base base.entry) ∷ []) }
+    ensures earlier { OnOk result (earlier.new ≡ with_text earlier.old (folded_base base.entry)) }
+{
+    let text = folded_base(alloc, base)?;
+    names.push(net_name(alloc, earlier, &text, number)?)?;
+    earlier.number(alloc, &text)?;
+    Ok(())
+}
+
 /// The names of a circuit's nets from their base names, which it folds: `a` to `z` become `A` to
 /// `Z`. A net gets `$` and its number, from 1, where its base is empty, has a `$` or is an earlier
 /// net's. Linear in the bytes of the bases.
@@ -100,11 +122,28 @@ pub fn net_names(alloc: Global, bases: &[Option<&Name>]) -> Result<Vec<Name>, Al
     let mut earlier = TextTable::new(alloc);
     let mut names = Vec::new(alloc);
     for i in 0..bases.len() {
-        let base = folded_base(alloc, bases[i])?;
-        names.push(net_name(alloc, &earlier, &base, i + 1)?)?;
-        earlier.number(alloc, &base)?;
+        push_net_name(alloc, bases[i], i + 1, &mut earlier, &mut names)?;
     }
     Ok(names)
+}
+
+// Adds the name of the next circuit, by its cell's name.
+fn push_circuit_name(
+    alloc: Global,
+    cell: &Name,
+    number: usize,
+    earlier: &mut TextTable,
+    names: &mut Vec<Name>,
+) -> Result<(), AllocError>
+    ensures names { OnOk result (names.new.items ≡ names.old.items
+        ++ (if circuit_needs earlier.old (folded_bytes cell.now)
+        then folded_bytes cell.now ++ circuit_ending number else folded_bytes cell.now) ∷ []) }
+    ensures earlier { OnOk result (earlier.new ≡ with_text earlier.old (folded_bytes cell.now)) }
+{
+    let name = folded(alloc, cell)?;
+    names.push(circuit_name(alloc, earlier, &name, number)?)?;
+    earlier.number(alloc, name.bytes())?;
+    Ok(())
 }
 
 /// The names of circuits from their cells' names, which it folds: `a` to `z` become `A` to `Z`. A
@@ -116,9 +155,7 @@ pub fn circuit_names(alloc: Global, cells: &[&Name]) -> Result<Vec<Name>, AllocE
     let mut earlier = TextTable::new(alloc);
     let mut names = Vec::new(alloc);
     for i in 0..cells.len() {
-        let name = folded(alloc, cells[i])?;
-        names.push(circuit_name(alloc, &earlier, &name, i + 1)?)?;
-        earlier.number(alloc, name.bytes())?;
+        push_circuit_name(alloc, cells[i], i + 1, &mut earlier, &mut names)?;
     }
     Ok(names)
 }

@@ -59,6 +59,37 @@ fn join_seats<T: Defined + Drop>(
     Ok(())
 }
 
+/// The crew works a board: each worker gets a seat of its own, and all seats come back.
+fn work_board<R: Threads + Wait + Sync, P: Phase + Sync, G: Gate + Sync>(
+    alloc: Global,
+    phase: &P,
+    crew: &Crew<R, G>,
+    board: &Board<P::Out>,
+    seat: &mut BoardSeat<P::Out>,
+) -> Result<(), AllocError>
+    requires board { IsBoardOf (P.graph phase.now) (P.key phase.now) board.now }
+    requires seat { IsLessBy 0 board.now seat.old }
+    ensures alone { OnOk result (IsLessBy 0 board.now seat.new) }
+    ensures cause { OnOk result (SawAll seat.new ⊎ SawStop seat.new) }
+{
+    let seats = split_seats(alloc, board, seat, crew.workers as u32)?;
+    let idle = &Condvar::new();
+    let ended = thread::map_vec(
+        crew.rt,
+        seats,
+        &|worker: (u32, BoardSeat<P::Out>)| -> Result<BoardSeat<P::Out>, AllocError>
+            requires board { IsBoardOf (P.graph phase.now) (P.key phase.now) board.now }
+            requires seat { MayGoOn board.now worker.1 }
+            ensures { IfOk result (HasEnded board.entry.now) }
+        {
+            let (place, mut seat) = worker;
+            work_all(alloc, phase, crew, board, idle, place, &mut seat)?;
+            Ok(seat)
+        },
+    )?;
+    join_seats(board, seat, ended)
+}
+
 /// The value of each job of a phase, worked by the crew's workers at once without a lock: a worker
 /// takes any job whose inputs are all published, enters the gate and works it; it sleeps while
 /// there is none. The calling thread is one of them, so a thread that can't be started changes no
@@ -73,25 +104,8 @@ pub fn run_phase<R: Threads + Wait + Sync, P: Phase + Sync, G: Gate + Sync>(
 ) -> Result<Results<P::Out>, AllocError>
     ensures { IfOk result (AreDefined P.Out.is_defined (P.key phase.now) (P.graph phase.now)) }
 {
-    let (board, seat) = Board::new(alloc, phase.graph(), phase.key())?;
-    let mut seat = seat;
-    let seats = split_seats(alloc, &board, &mut seat, crew.workers as u32)?;
-    let shared = &board;
-    let idle = &Condvar::new();
-    let ended = thread::map_vec(
-        crew.rt,
-        seats,
-        &|worker: (u32, BoardSeat<P::Out>)| -> Result<BoardSeat<P::Out>, AllocError>
-            requires board { IsBoardOf (P.graph phase.now) (P.key phase.now) shared.now }
-            requires seat { MayGoOn shared.now worker.1 }
-            ensures { IfOk result (HasEnded shared.entry.now) }
-        {
-            let (place, mut seat) = worker;
-            work_all(alloc, phase, crew, shared, idle, place, &mut seat)?;
-            Ok(seat)
-        },
-    )?;
-    join_seats(shared, &mut seat, ended)?;
+    let (board, mut seat) = Board::new(alloc, phase.graph(), phase.key())?;
+    work_board(alloc, phase, crew, &board, &mut seat)?;
     let Ok(results) = board.close(seat) else {
         unreachable!();
     };

@@ -52,12 +52,27 @@ pub fn list_kinds(
 {
     let left_names = pin_names(alloc, left, told)?;
     let right_names = pin_names(alloc, right, told)?;
+    kinds_by(alloc, left, &left_names, right, &right_names)
+}
+
+// Those numbers where these are the names of the pins.
+fn kinds_by(
+    alloc: Global,
+    left: &Circuit,
+    left_names: &[Option<Name>],
+    right: &Circuit,
+    right_names: &[Option<Name>],
+) -> Result<Vec<u32>, AllocError>
+    ensures { IfOk result (λ kinds. AreKindsOf kinds.items
+        (named_owns (name_in left_names.now) (plain_circuit left.now)
+        ++ named_owns (name_in right_names.now) (plain_circuit right.now))) }
+{
     let mut kinds = Kinds {
         numbers: HashMap::new(alloc),
         of_nodes: Vec::new(alloc),
     };
-    kinds.add_circuit(alloc, left, &left_names)?;
-    kinds.add_circuit(alloc, right, &right_names)?;
+    kinds.add_circuit(alloc, left, left_names)?;
+    kinds.add_circuit(alloc, right, right_names)?;
     Ok(kinds.of_nodes)
 }
 

@@ -4,7 +4,7 @@ use Rattle.std.specs.Prelude.{Option, Some, None, if◌then◌else◌}
 use Rattle.plain_netlist.specs.Netlist.{Netlist}
 use Rattle.align_laws.specs.Partners.{IsPartner}
 use Rattle.net_align.specs.Marks.{IsSole, circuits_called}
-use Rattle.net_align.specs.Names.{found_in, names_of, partner_named}
+use Rattle.net_align.specs.Names.{found_in, names_of, partner_named, partners_named}
 use Rattle.net_align.specs.declared.names.Naming.{Naming}
 
 -- the partner of each circuit of the layout, or none
@@ -45,3 +45,12 @@ pub record AreSettled (of : List (Option ℕ)) (top : ℕ) (by_place : Option �
   pub long : length new ≡ n
   pub each : (a : ℕ) → a < n
       → slice_index_or new a None ≡ settled top by_place a (slice_index_or of a None)
+
+-- the partners by these names, with the top's by its place
+pub record ArePartnersBy (n : Naming) (layout schematic : Netlist) (top : ℕ)
+    (of : List (Option ℕ)) : Type 0 where
+  pub name : List ℕ
+  pub named : slice_get (names_of layout) top ≡ Some name
+  pub place : Option ℕ
+  pub placed : FindsPlaced n name schematic place
+  pub settled : AreSettled (partners_named n layout) top place (length (partners_named n layout)) of

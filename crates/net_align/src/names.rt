@@ -1,8 +1,10 @@
 //! The partner of a layout's circuit by its name.
-ghost use Rattle.std.specs.Prelude.{◌≡◌, IfOk, length};
+ghost use Rattle.std.specs.Prelude.{◌≡◌, ◌++◌, ◌∷◌, [], false, IfOk, OnOk, length};
 ghost use Rattle.net_align.specs.Names.{AreOnce, IsNaming, found_in, names_of, left_names};
 ghost use Rattle.net_align.specs.Names.{right_names, partner_named, partners_named};
 ghost use Rattle.net_model.specs.Rows.{plain_netlist};
+ghost use Rattle.net_names.specs.Folding.{folded_bytes};
+ghost use Rattle.text_table.specs.Texts.{has_text};
 
 use net_model::Netlist;
 use net_names::{Name, folded};
@@ -30,11 +32,14 @@ impl Naming {
         requires rights { AreOnce (right_names same.now) }
         ensures { IfOk result (IsNaming (plain_netlist schematic.now) same.now) }
     {
+        let right_names = right_names(alloc, same)?;
+        let circuits = circuit_table(alloc, schematic)?;
+        let (lefts, rights) = line_tables(alloc, same)?;
         Ok(Naming {
-            circuits: circuit_table(alloc, schematic)?,
-            lefts: left_table(alloc, same)?,
-            rights: right_table(alloc, same)?,
-            right_names: right_names(alloc, same)?,
+            circuits,
+            lefts,
+            rights,
+            right_names,
         })
     }
 
@@ -83,16 +88,35 @@ pub fn find(table: &TextTable, name: &Name) -> Option<usize>
     }
 }
 
+// Adds a name, small letters being large ones, as the last.
+fn add_folded(alloc: Global, table: &mut TextTable, name: &Name) -> Result<(), AllocError>
+    requires { has_text table.old (folded_bytes name.now) ≡ false }
+    ensures { OnOk result (table.new ≡ table.old ++ folded_bytes name.now ∷ []) }
+{
+    table.add(alloc, folded(alloc, name)?.bytes())
+}
+
 fn circuit_table(alloc: Global, netlist: &Netlist) -> Result<TextTable, AllocError>
     requires { AreOnce (names_of (plain_netlist netlist.now)) }
     ensures { IfOk result (λ table. table ≡ names_of (plain_netlist netlist.now)) }
 {
     let mut table = TextTable::new(alloc);
     for circuit in &netlist.circuits {
-        let name = folded(alloc, &circuit.name)?;
-        table.add(alloc, name.bytes())?;
+        add_folded(alloc, &mut table, &circuit.name)?;
     }
     Ok(table)
+}
+
+// The names on the left of the lines, and those on the right.
+fn line_tables(alloc: Global, same: &[(Name, Name)]) -> Result<(TextTable, TextTable), AllocError>
+    requires lefts { AreOnce (left_names same.now) }
+    requires rights { AreOnce (right_names same.now) }
+    ensures lefts { IfOk result (λ tables. tables.0 ≡ left_names same.now) }
+    ensures rights { IfOk result (λ tables. tables.1 ≡ right_names same.now) }
+{
+    let lefts = left_table(alloc, same)?;
+    let rights = right_table(alloc, same)?;
+    Ok((lefts, rights))
 }
 
 fn left_table(alloc: Global, same: &[(Name, Name)]) -> Result<TextTable, AllocError>
@@ -101,8 +125,7 @@ fn left_table(alloc: Global, same: &[(Name, Name)]) -> Result<TextTable, AllocEr
 {
     let mut table = TextTable::new(alloc);
     for line in same {
-        let name = folded(alloc, &line.0)?;
-        table.add(alloc, name.bytes())?;
+        add_folded(alloc, &mut table, &line.0)?;
     }
     Ok(table)
 }
@@ -113,8 +136,7 @@ fn right_table(alloc: Global, same: &[(Name, Name)]) -> Result<TextTable, AllocE
 {
     let mut table = TextTable::new(alloc);
     for line in same {
-        let name = folded(alloc, &line.1)?;
-        table.add(alloc, name.bytes())?;
+        add_folded(alloc, &mut table, &line.1)?;
     }
     Ok(table)
 }

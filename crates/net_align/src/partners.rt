@@ -2,9 +2,10 @@
 ghost use Rattle.std.specs.Prelude.{◌≡◌, ◌<◌, IfOk, IfSome, length, slice_index_or, []};
 ghost use Rattle.net_align.specs.Marks.{AreCallsOfCircuits};
 ghost use Rattle.net_align.specs.Names.{AreOnce, found_in, names_of, left_names, right_names};
-ghost use Rattle.net_align.specs.Found.{ArePartners, AreSettled, FindsPlaced, if_unsaid};
-ghost use Rattle.net_align.specs.Found.{other_than, settled};
+ghost use Rattle.net_align.specs.Found.{ArePartners, ArePartnersBy, AreSettled, FindsPlaced};
+ghost use Rattle.net_align.specs.Found.{if_unsaid, other_than, settled};
 ghost use Rattle.net_model.specs.Rows.{plain_netlist};
+ghost use Rattle.net_names.specs.Folding.{folded_bytes};
 
 use crate::marks::{called_circuits, sole_unmarked};
 use crate::names::{Naming, find};
@@ -32,10 +33,40 @@ pub fn find_partners(
         (plain_netlist layout.now) (plain_netlist schematic.now) top same.now of.items) }
 {
     let naming = Naming::new(alloc, schematic, same)?;
+    partners_by(alloc, &naming, layout, top, schematic)
+}
+
+// The partners by these names, with the top's by its place.
+fn partners_by(
+    alloc: Global,
+    naming: &Naming,
+    layout: &Netlist,
+    top: usize,
+    schematic: &Netlist,
+) -> Result<Vec<Option<usize>>, AllocError>
+    requires top { top < length layout.now.circuits.items }
+    requires calls { AreCallsOfCircuits (plain_netlist schematic.now) }
+    ensures { IfOk result (λ of. ArePartnersBy naming.now
+        (plain_netlist layout.now) (plain_netlist schematic.now) top of.items) }
+{
+    let by_place = partner_of(alloc, naming, &layout.circuits[top].name, schematic)?;
     let of = naming.partners(alloc, layout)?;
-    let name = folded(alloc, &layout.circuits[top].name)?;
-    let by_place = partner_by_place(alloc, &naming, &name, schematic)?;
     settle(alloc, &of, top, by_place)
+}
+
+// The partner that a top of this name has by its place.
+fn partner_of(
+    alloc: Global,
+    naming: &Naming,
+    name: &Name,
+    schematic: &Netlist,
+) -> Result<Option<usize>, AllocError>
+    requires { AreCallsOfCircuits (plain_netlist schematic.now) }
+    ensures { IfOk result
+        (FindsPlaced naming.now (folded_bytes name.now) (plain_netlist schematic.now)) }
+{
+    let name = folded(alloc, name)?;
+    partner_by_place(alloc, naming, &name, schematic)
 }
 
 // The partner that a top of this folded name has by its place.

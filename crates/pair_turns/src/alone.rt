@@ -6,6 +6,8 @@ ghost use Rattle.pair_turns.specs.Alone.{all_names, circuit_names, first_names, 
 ghost use Rattle.pair_turns.specs.Alone.{has_name, is_untouched, longest, same_alone};
 ghost use Rattle.pair_turns.specs.Alone.{second_names, stranger, with_gone};
 ghost use Rattle.pair_turns.specs.Seen.{IsTableOf, names_in};
+ghost use Rattle.net_names.specs.Folding.{folded_bytes};
+ghost use Rattle.text_table.specs.Texts.{with_text};
 
 use net_model::{Circuit, Netlist};
 use net_names::{Name, folded};
@@ -104,6 +106,14 @@ fn stranger(alloc: Global, most: usize, name: &Name) -> Result<Name, AllocError>
     Ok(Name::from_vec(bytes))
 }
 
+// Adds a name, small letters being large ones, where it isn't there.
+fn add_folded(alloc: Global, table: &mut TextTable, name: &Name) -> Result<(), AllocError>
+    ensures { OnOk result (table.new ≡ with_text table.old (folded_bytes name.now)) }
+{
+    table.number(alloc, folded(alloc, name)?.bytes())?;
+    Ok(())
+}
+
 // The names with their letters folded, each once.
 fn folded_table(alloc: Global, names: &[Name]) -> Result<TextTable, AllocError>
     ensures { IfOk result (IsTableOf names.now) }
@@ -111,7 +121,7 @@ fn folded_table(alloc: Global, names: &[Name]) -> Result<TextTable, AllocError>
     let mut table = TextTable::new(alloc);
     let mut rest = names;
     'names: while let [name, more @ ..] = rest {
-        table.number(alloc, folded(alloc, name)?.bytes())?;
+        add_folded(alloc, &mut table, name)?;
         rest = more;
     }
     Ok(table)
@@ -144,15 +154,37 @@ fn untouched(
 {
     let lefts = folded_table(alloc, &alone.lefts)?;
     let rights = folded_table(alloc, &alone.rights)?;
+    untouched_by(alloc, same, alone, &lefts, &rights)
+}
+
+// The lines that name none of the circuits of these tables.
+fn untouched_by(
+    alloc: Global,
+    same: &[(Name, Name)],
+    alone: &Alone,
+    lefts: &TextTable,
+    rights: &TextTable,
+) -> Result<Vec<(Name, Name)>, AllocError>
+    requires lefts { IsTableOf alone.now.lefts.items lefts.now }
+    requires rights { IsTableOf alone.now.rights.items rights.now }
+    ensures { IfOk result (λ lines. lines.items ≡ filter (is_untouched (names_in alone.now))
+        same.now) }
+{
     let mut lines = Vec::new(alloc);
     let mut rest = same;
     'lines: while let [line, more @ ..] = rest {
-        if is_untouched(alloc, alone, &lefts, &rights, line)? {
-            lines.push((line.0.try_clone(alloc)?, line.1.try_clone(alloc)?))?;
+        if is_untouched(alloc, alone, lefts, rights, line)? {
+            lines.push(copy_of(alloc, line)?)?;
         }
         rest = more;
     }
     Ok(lines)
+}
+
+fn copy_of(alloc: Global, line: &(Name, Name)) -> Result<(Name, Name), AllocError>
+    ensures { IfOk result (λ copy. copy ≡ line.now) }
+{
+    Ok((line.0.try_clone(alloc)?, line.1.try_clone(alloc)?))
 }
 
 // A line for each of these circuits of the layout.

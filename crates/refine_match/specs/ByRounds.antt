@@ -1,5 +1,5 @@
 -- What the rounds alone decide.
-use Rattle.std.specs.Prelude.{◌≡◌, ℕ, Bool, []}
+use Rattle.std.specs.Prelude.{◌≡◌, ℕ, Bool, [], Option, Some, None}
 use Rattle.round_laws.specs.Nodes.{Node}
 use Rattle.match_laws.specs.Circuits.{Pair, AreMatched}
 use Rattle.match_laws.specs.Answer.{IsAnswer}
@@ -12,7 +12,7 @@ use Rattle.match_rounds.specs.declared.refinement.Verdict.TheVariants as verdict
 use Rattle.match_rounds.specs.Classes.{IsPartition}
 use Rattle.match_rounds.specs.Refined.{AreSettled}
 use Rattle.match_rounds.specs.Start.{guessed_web}
-use Rattle.refine_match.specs.Choosing.{IsLeastTied}
+use Rattle.refine_match.specs.Choosing.{AreUntied, IsLeastTied}
 use Rattle.refine_match.specs.Rights.{AreListsOf}
 use Rattle.refine_match.specs.declared.lists.Lists.{Lists}
 use Rattle.refine_match.specs.declared.by_rounds.Rounds.{Rounds}
@@ -24,6 +24,11 @@ pub record AreTies (g : Graph) (c : Classes) (l : Lists) (node : ℕ) : Type 0 w
   pub settled : AreSettled (guessed_web g []) c
   pub lists : AreListsOf l g c
   pub least : IsLeastTied g c (left_of g) node
+
+-- the lists of the classes and the left node that is guessed first, or none where none is tied
+abbrev pub AreFirstTies : Graph → Classes → Option (Lists × ℕ) → Type 0
+AreFirstTies g c (Some ties) = AreListsOf ties.0 g c × IsLeastTied g c (left_of g) ties.1
+AreFirstTies g c None = AreUntied g c (left_of g)
 
 -- an answer is that of the pair, whatever equal names and the limit are; ties are left only where
 -- each called pair is matched

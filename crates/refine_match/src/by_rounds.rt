@@ -9,7 +9,8 @@ ghost use Rattle.match_graph.specs.Graph.{IsGraph, IsGraphOf, left_of, nodes_of}
 ghost use Rattle.match_rounds.specs.Classes.{IsPartition};
 ghost use Rattle.match_rounds.specs.Refined.{AreRefuted, AreSettled, IsVerdict};
 ghost use Rattle.match_rounds.specs.Start.{guessed_web};
-ghost use Rattle.refine_match.specs.ByRounds.{IsFirstRound, IsRoundsAnswer};
+ghost use Rattle.refine_match.specs.ByRounds.{AreFirstTies, IsFirstRound, IsRoundsAnswer};
+ghost use Rattle.refine_match.specs.Choosing.{AreUntied};
 
 use crate::evidence::evidence_of;
 use crate::lists::Lists;
@@ -92,11 +93,38 @@ fn by_classes(alloc: Global, graph: &Graph, classes: Classes) -> Result<Rounds, 
     ensures { IfOk result (λ rounds. (p : Pair) → IsGraphOf p graph.now → IsWeb (web_of p)
         → AreMatched p → IsRoundsAnswer p graph.now rounds) }
 {
-    let mut lists = Lists::of(alloc, graph, &classes)?;
-    if let Some(node) = lists.choose(graph, &classes)? {
-        return Ok(Rounds::Tied(classes, lists, node));
+    match first_ties(alloc, graph, &classes)? {
+        Some((lists, node)) => Ok(Rounds::Tied(classes, lists, node)),
+        None => matched(alloc, graph, &classes),
     }
-    let pairing = read_pairing(alloc, graph, &classes)?;
+}
+
+// The lists of classes, and the left node to be guessed first, where there are ties.
+fn first_ties(
+    alloc: Global,
+    graph: &Graph,
+    classes: &Classes,
+) -> Result<Option<(Lists, u32)>, AllocError>
+    requires { IsPartition classes.now (left_of graph.now) (nodes_of graph.now) }
+    ensures { IfOk result (AreFirstTies graph.now classes.now) }
+{
+    let mut lists = Lists::of(alloc, graph, classes)?;
+    match lists.choose(graph, classes)? {
+        Some(node) => Ok(Some((lists, node))),
+        None => Ok(None),
+    }
+}
+
+// The match that stable classes of one pair each show.
+fn matched(alloc: Global, graph: &Graph, classes: &Classes) -> Result<Rounds, AllocError>
+    requires graph { IsGraph graph.now }
+    requires partition { IsPartition classes.now (left_of graph.now) (nodes_of graph.now) }
+    requires settled { AreSettled (guessed_web graph.now []) classes.now }
+    requires untied { AreUntied graph.now classes.now (left_of graph.now) }
+    ensures { IfOk result (λ rounds. (p : Pair) → IsGraphOf p graph.now → IsWeb (web_of p)
+        → AreMatched p → IsRoundsAnswer p graph.now rounds) }
+{
+    let pairing = read_pairing(alloc, graph, classes)?;
     Ok(Rounds::Decided(Answer::Match(pairing)))
 }
 

@@ -11,6 +11,7 @@ ghost use Rattle.refine_match.specs.Candidates.{IsPairOf};
 ghost use Rattle.refine_match.specs.Matching.{AreSingleClasses, CarriesPairing, ExcludesPairings};
 ghost use Rattle.refine_match.specs.Matching.{HaveUnevenClass, HaveUnevenDevices, IsDecided};
 ghost use Rattle.refine_match.specs.Matching.{IsDifference, IsEnough, IsUndecided};
+ghost use Rattle.refine_match.specs.Namesakes.{AreNamesakes};
 ghost use Rattle.refine_match.specs.Searching.{IsKept};
 
 use crate::by_rounds::{Rounds, by_rounds};
@@ -109,11 +110,30 @@ fn by_guesses(
 {
     let namesakes = list_namesakes(alloc, left, right)?;
     let mut search = begun;
+    decide(alloc, graph, left, right, &namesakes, &mut search)
+}
+
+// Guesses until a search comes to its answer.
+fn decide(
+    alloc: Global,
+    graph: &Graph,
+    left: &Circuit,
+    right: &Circuit,
+    namesakes: &[Option<u32>],
+    search: &mut Search,
+) -> Result<Answer, AllocError>
+    requires namesakes { AreNamesakes left.now right.now namesakes.now }
+    requires pair { (p : Pair) × IsPairOf p graph.now left.now right.now × IsWeb (web_of p) }
+    requires way { IsKept graph.now left.now right.now search.old.limit search.old }
+    ensures { IfOk result (λ answer. (p : Pair) → IsPairOf p graph.now left.now right.now
+        → IsWeb (web_of p) → AreMatched p
+        → IsAnswer p (equal_names p) search.old.limit (plain_answer answer)) }
+{
     loop {
-        match search.next(graph, left, right, &namesakes) {
+        match search.next(graph, left, right, namesakes) {
             Some(candidate) => {
                 if search.refuted == search.limit {
-                    return Ok(Answer::Undecided(search.rows));
+                    return Ok(Answer::Undecided(search.take_rows(alloc)));
                 }
                 if search.guess(alloc, graph, candidate)? {
                     let pairing = read_pairing(alloc, graph, &search.classes)?;
@@ -122,7 +142,7 @@ fn by_guesses(
             }
             None => {
                 if !search.leave(alloc, graph)? {
-                    return Ok(Answer::Differs(Evidence::Tree(search.rows)));
+                    return Ok(Answer::Differs(Evidence::Tree(search.take_rows(alloc))));
                 }
             }
         }

@@ -2,6 +2,7 @@
 
 ghost use Rattle.std.specs.Prelude.{◌<◌, ◌^◌, length, IfOk};
 ghost use Rattle.std.specs.HashMap.{get};
+ghost use Rattle.net_model.specs.declared.netlist.Circuit.{Circuit};
 ghost use Rattle.refine_match.specs.Namesakes.{AreFirsts, AreNamesakes, is_same_name};
 
 use net_model::Circuit;
@@ -19,6 +20,19 @@ pub fn list_namesakes(
     ensures { IfOk result (λ found. AreNamesakes left.now right.now found.items) }
 {
     let firsts = first_nets(alloc, right)?;
+    namesakes_by(alloc, left, &firsts)
+}
+
+// Those that the first right net of each name gives.
+fn namesakes_by<'a>(
+    alloc: Global,
+    left: &'a Circuit,
+    firsts: &HashMap<&'a [u8], u32>,
+) -> Result<Vec<Option<u32>>, AllocError>
+    ensures { IfOk result (λ found. (right : Circuit)
+        → AreFirsts right 0 (get is_same_name firsts.now)
+        → AreNamesakes left.now right found.items) }
+{
     let mut namesakes = Vec::new(alloc);
     for n in 0..left.nets.len() {
         namesakes.push(firsts.get(&left.nets[n].bytes()).copied())?;

@@ -19,6 +19,7 @@ use match_rounds::{Classes, refine};
 use match_types::{Guess, GuessEnd};
 use net_model::Circuit;
 use std::alloc::{AllocError, Global};
+use std::mem;
 
 /// A left node under guess.
 #[derive(Clone, Copy, Debug, PartialEq, Eq)]
@@ -115,6 +116,13 @@ impl Search {
             }
             None => Ok(false),
         }
+    }
+
+    /// The guesses so far, of which none is left here.
+    pub fn take_rows(&mut self, alloc: Global) -> Vec<Guess>
+        ensures { result ≡ self.old.rows }
+    {
+        mem::replace(&mut self.rows, Vec::new(alloc))
     }
 }
 

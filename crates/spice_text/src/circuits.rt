@@ -1,18 +1,21 @@
 //! Circuits with their nets by number, made from their cards.
 
-ghost use Rattle.std.specs.Prelude.{◌≡◌, ◌<◌, ◌^◌, [], flat_map, map, length, IfOk};
+ghost use Rattle.std.specs.Prelude.{◌≡◌, ◌++◌, ◌<◌, ◌^◌, [], flat_map, map, length, IfOk, OnOk};
 ghost use Rattle.call_order.specs.Order.{lists};
-ghost use Rattle.net_model.specs.Rows.{plain_circuit};
+ghost use Rattle.text_table.specs.Texts.{place_of};
+ghost use Rattle.net_model.specs.Rows.{plain_call, plain_circuit};
 ghost use Rattle.spice_text.specs.Needs.{first_seen, device_nets, HaveBytes};
 ghost use Rattle.spice_text.specs.Table.{needed_of, seen_with_needs};
-ghost use Rattle.spice_text.specs.Means.{net_names, row_over, circuit_row, rows_from};
+ghost use Rattle.spice_text.specs.Means.{call_row, circuit_row, device_row, net_names};
+ghost use Rattle.spice_text.specs.Means.{row_over, rows_from};
 ghost use Rattle.spice_text.specs.Seen.{circuit_seen};
 
 use crate::gather::CircuitCards;
+use crate::kept::KeptDevice;
 use crate::nets::{Nets, row_at};
 use crate::numbers::{call_rows, device_rows, net_numbers};
 use list_base::number;
-use net_model::Circuit;
+use net_model::{CallRow, Circuit};
 use net_names::Name;
 use std::alloc::{AllocError, Global};
 use text_table::TextTable;
@@ -54,6 +57,66 @@ fn nets_of(
     seen_nets(alloc, names, rows, globals, k, c)
 }
 
+/// The pins and the calls of a circuit with their nets by number.
+#[derive(Drop)]
+struct Joined {
+    pins: Vec<u32>,
+    calls: Vec<CallRow>,
+}
+
+// Those of a circuit's cards by these nets; 2^32 nets are refused.
+fn joined_by(
+    alloc: Global,
+    names: &TextTable,
+    rows: &[Vec<u32>],
+    globals: &[Name],
+    k: usize,
+    c: &CircuitCards,
+    nets: &TextTable,
+) -> Result<Joined, AllocError>
+    requires { length names.now < 2 ^ 32 }
+    ensures few { OnOk result (length nets.now < 2 ^ 32) }
+    ensures pins { IfOk result (λ joined. joined.pins.items ≡ map (place_of nets.now)
+        ((circuit_seen c.now).pins ++ needed_of (lists rows.now) globals.now k)) }
+    ensures calls { IfOk result (λ joined. map plain_call joined.calls.items
+        ≡ map (call_row names.now (needed_of (lists rows.now) globals.now) nets.now)
+        (circuit_seen c.now).calls) }
+{
+    number(nets.len())?;
+    let pins = net_numbers(alloc, nets, &c.pins, row_at(rows, k), globals)?;
+    let calls = call_rows(alloc, names, rows, globals, nets, &c.calls)?;
+    Ok(Joined { pins, calls })
+}
+
+// A circuit on these nets, whose pins and calls have them by number.
+fn circuit_on(
+    alloc: Global,
+    name: Name,
+    devices: Vec<KeptDevice>,
+    nets: Nets,
+    joined: Joined,
+) -> Result<Circuit, AllocError>
+    requires few { length nets.table < 2 ^ 32 }
+    requires names { HaveBytes nets.table }
+    ensures { IfOk result (λ circuit. plain_circuit circuit ≡ record {
+      name = name;
+      nets = nets.table;
+      pins = joined.pins.items;
+      devices = map (device_row nets.table) devices.items;
+      calls = map plain_call joined.calls.items;
+    }) }
+{
+    let devices = device_rows(alloc, &nets.table, devices)?;
+    let nets = nets.into_names(alloc)?;
+    Ok(Circuit {
+        name,
+        nets,
+        pins: joined.pins,
+        devices,
+        calls: joined.calls,
+    })
+}
+
 fn circuit_over(
     alloc: Global,
     names: &TextTable,
@@ -69,18 +132,8 @@ fn circuit_over(
         ≡ row_over names.now (needed_of (lists rows.now) globals.now) k (circuit_seen c)
         nets.table) }
 {
-    number(nets.table.len())?;
-    let pins = net_numbers(alloc, &nets.table, &c.pins, row_at(rows, k), globals)?;
-    let calls = call_rows(alloc, names, rows, globals, &nets.table, &c.calls)?;
-    let devices = device_rows(alloc, &nets.table, c.devices)?;
-    let nets = nets.into_names(alloc)?;
-    Ok(Circuit {
-        name: c.name,
-        nets,
-        pins,
-        devices,
-        calls,
-    })
+    let joined = joined_by(alloc, names, rows, globals, k, &c, &nets.table)?;
+    circuit_on(alloc, c.name, c.devices, nets, joined)
 }
 
 fn circuit(

@@ -34,13 +34,21 @@ pub fn each_once(alloc: Global, names: &[Name]) -> Result<Globals, AllocError>
     ensures table { IfOk result (λ globals. globals.table ≡ first_seen [] names.now) }
     ensures globals { IfOk result AreGlobals }
 {
+    let once = names_once(alloc, names)?;
+    number(once.len())?;
     let nets = Nets::of(alloc, names)?;
-    number(nets.table.len())?;
-    let again = Nets::of(alloc, names)?;
     Ok(Globals {
         table: nets.table,
-        names: again.into_names(alloc)?,
+        names: once,
     })
+}
+
+// The names, each once, as a list.
+fn names_once(alloc: Global, names: &[Name]) -> Result<Vec<Name>, AllocError>
+    ensures { IfOk result (λ once. once.items ≡ first_seen [] names.now) }
+{
+    let nets = Nets::of(alloc, names)?;
+    nets.into_names(alloc)
 }
 
 fn push_number(out: &mut Vec<u32>, globals: &TextTable, name: &[u8]) -> Result<(), AllocError>

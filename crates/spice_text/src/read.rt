@@ -1,23 +1,64 @@
 //! The netlist that a SPICE text means, or the text's first fault.
 
-ghost use Rattle.std.specs.Prelude.{◌≡◌, IfOk, IfErr, map};
+ghost use Rattle.std.specs.Prelude.{◌≡◌, ◌<◌, ◌^◌, [], IfOk, IfErr, length, map};
 ghost use Rattle.call_order.specs.Order.{lists};
 ghost use Rattle.net_model.specs.Rows.{plain_netlist};
 ghost use Rattle.plain_netlist.specs.Normal.{IsNormalNetlist};
 ghost use Rattle.plain_netlist.specs.Sound.{IsSoundNetlist};
 ghost use Rattle.spice_rows.specs.Sizes.{read_limit};
 ghost use Rattle.spice_text.specs.Faults.{AreOrdered};
-ghost use Rattle.spice_text.specs.Means.{IsNetlistOf, Means, SaysFirst};
+ghost use Rattle.spice_text.specs.Means.{IsNetlistOf, Means, SaysFirst, rows_from};
+ghost use Rattle.spice_text.specs.Needs.{first_seen};
 ghost use Rattle.spice_text.specs.Seen.{circuit_seen};
+ghost use Rattle.spice_text.specs.Table.{AreGlobals, IsNeedTable, needed_of};
 
 use crate::circuits::circuit_rows;
-use crate::gather::gather_cards;
-use crate::needs::{each_once, need_table};
+use crate::gather::{CircuitCards, gather_cards};
+use crate::needs::{Globals, each_once, need_table};
 use crate::ordered::{OrderedCards, order_cards};
 use call_order::order_laws;
 use net_model::{Netlist, call_list_laws};
 use spice_rows::SpiceFault;
 use std::alloc::{AllocError, Global};
+use text_table::TextTable;
+
+/// The global names, and for each circuit the rising numbers of those that it needs.
+#[derive(Drop)]
+struct Needs {
+    globals: Globals,
+    rows: Vec<Vec<u32>>,
+}
+
+fn needs_of(alloc: Global, cards: &OrderedCards) -> Result<Needs, AllocError>
+    requires { AreOrdered (map circuit_seen cards.now.circuits.items) cards.now.names
+        (lists cards.now.calls.items) cards.now.order.items }
+    ensures table { IfOk result (λ needs.
+        needs.globals.table ≡ first_seen [] cards.now.globals.items) }
+    ensures globals { IfOk result (λ needs. AreGlobals needs.globals) }
+    ensures rows { IfOk result (λ needs. IsNeedTable (map circuit_seen cards.now.circuits.items)
+        needs.globals.table (lists needs.rows.items)) }
+{
+    let globals = each_once(alloc, &cards.globals)?;
+    let rows = need_table(alloc, &cards.circuits, &cards.calls, &cards.order, &globals)?;
+    Ok(Needs { globals, rows })
+}
+
+// The netlist of circuits of these names with these needs.
+fn netlist_over(
+    alloc: Global,
+    names: &TextTable,
+    needs: &Needs,
+    circuits: Vec<CircuitCards>,
+) -> Result<Netlist, AllocError>
+    requires { length names.now < 2 ^ 32 }
+    ensures { IfOk result (λ n. (plain_netlist n).circuits ≡ rows_from names.now
+        (needed_of (lists needs.now.rows.items) needs.now.globals.names.items) 0
+        (map circuit_seen circuits.items)) }
+{
+    let (rows, globals) = (&needs.rows, &needs.globals.names);
+    let circuits = circuit_rows(alloc, names, rows, globals, circuits)?;
+    Ok(Netlist { circuits })
+}
 
 fn netlist(alloc: Global, cards: OrderedCards) -> Result<Netlist, AllocError>
     requires { AreOrdered (map circuit_seen cards.circuits.items) cards.names
@@ -25,11 +66,9 @@ fn netlist(alloc: Global, cards: OrderedCards) -> Result<Netlist, AllocError>
     ensures { IfOk result (λ n. IsNetlistOf (map circuit_seen cards.circuits.items)
         cards.globals.items (plain_netlist n)) }
 {
-    let globals = each_once(alloc, &cards.globals)?;
-    let rows = need_table(alloc, &cards.circuits, &cards.calls, &cards.order, &globals)?;
+    let needs = needs_of(alloc, &cards)?;
     let gathered = cards.circuits;
-    let circuits = circuit_rows(alloc, &cards.names, &rows, &globals.names, gathered)?;
-    Ok(Netlist { circuits })
+    netlist_over(alloc, &cards.names, &needs, gathered)
 }
 
 /// The netlist that a SPICE text means, or the text's first fault: that of the first card that has

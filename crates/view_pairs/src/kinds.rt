@@ -2,7 +2,7 @@
 //! its pair.
 
 use crate::alike::Sides;
-use net_model::{CallRow, DeviceRow};
+use net_model::{CallRow, Circuit, DeviceRow};
 use std::alloc::{AllocError, Global};
 use text_table::TextTable;
 
@@ -41,16 +41,30 @@ fn push_calls(out: &mut Vec<u64>, calls: &[CallRow]) -> Result<(), AllocError> {
     Ok(())
 }
 
+// The kinds of a circuit's nodes, the nets that are pins being marked.
+fn push_circuit(
+    alloc: Global,
+    out: &mut Vec<u64>,
+    classes: &mut TextTable,
+    pins: &[bool],
+    circuit: &Circuit,
+) -> Result<(), AllocError> {
+    push_nets(out, pins)?;
+    push_devices(alloc, out, classes, &circuit.devices)?;
+    push_calls(out, &circuit.calls)
+}
+
+// Those of both circuits, whose classes have one number each.
+fn push_sides(alloc: Global, out: &mut Vec<u64>, sides: &Sides<'_>) -> Result<(), AllocError> {
+    let mut classes = TextTable::new(alloc);
+    push_circuit(alloc, out, &mut classes, &sides.left_pins, sides.left)?;
+    push_circuit(alloc, out, &mut classes, &sides.right_pins, sides.right)
+}
+
 /// The kind of each node of both circuits, the left ones first. Linear, expected over the hashes of
 /// the classes' names.
 pub fn kinds_of(alloc: Global, sides: &Sides<'_>) -> Result<Vec<u64>, AllocError> {
     let mut out = Vec::new(alloc);
-    let mut classes = TextTable::new(alloc);
-    push_nets(&mut out, &sides.left_pins)?;
-    push_devices(alloc, &mut out, &mut classes, &sides.left.devices)?;
-    push_calls(&mut out, &sides.left.calls)?;
-    push_nets(&mut out, &sides.right_pins)?;
-    push_devices(alloc, &mut out, &mut classes, &sides.right.devices)?;
-    push_calls(&mut out, &sides.right.calls)?;
+    push_sides(alloc, &mut out, sides)?;
     Ok(out)
 }

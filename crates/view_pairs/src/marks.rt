@@ -4,14 +4,15 @@ ghost use Rattle.std.specs.Prelude.{◌≡◌, [], IfOk, bytes_eq, get_or};
 ghost use Rattle.std.specs.Option.{option_map};
 ghost use Rattle.net_names.specs.Folding.{folded_bytes};
 ghost use Rattle.net_model.specs.Rows.{plain_call, plain_circuit, plain_device};
-ghost use Rattle.view_pairs.specs.Alike.{pin_marks};
+ghost use Rattle.view_pairs.specs.Alike.{marks_of, pin_marks};
+ghost use Rattle.view_pairs.specs.Joints.{odd_lefts, odd_rights};
 ghost use Rattle.view_pairs.specs.Marks.{call_mark, device_mark, is_misnamed, left_odds, mark_both};
 ghost use Rattle.view_pairs.specs.Marks.{mark_by, net_mark, pin_net_mark, right_odds, same_sizes};
 ghost use Rattle.view_pairs.specs.Marks.{sized_mark};
 ghost use Rattle.view_pairs.specs.Rows.{pins_of};
 
 use crate::alike::{Sides, mark_at, marks_of};
-use crate::joints::{are_met, odd_lefts, odd_rights, push_call, push_device};
+use crate::joints::{Joint, are_met, odd_lefts, odd_rights, push_call, push_device};
 use crate::partners::{Partner, Partners};
 use crate::proposal::Proposal;
 use crate::terminals::joints_of;
@@ -25,6 +26,34 @@ use view_cross::Mark;
 pub struct Odds {
     pub lefts: Vec<bool>,
     pub rights: Vec<bool>,
+}
+
+// Which of so many left nets have a terminal that isn't met.
+fn odd_left_marks(
+    alloc: Global,
+    count: usize,
+    nets: &Partners,
+    joints: &[Joint],
+) -> Result<Vec<bool>, AllocError>
+    ensures { IfOk result (λ marks. marks.items
+        ≡ marks_of count (odd_lefts nets.now joints.now)) }
+{
+    let odd = odd_lefts(alloc, nets, joints)?;
+    marks_of(alloc, count, &odd)
+}
+
+// Which of so many right ones.
+fn odd_right_marks(
+    alloc: Global,
+    count: usize,
+    nets: &Partners,
+    joints: &[Joint],
+) -> Result<Vec<bool>, AllocError>
+    ensures { IfOk result (λ marks. marks.items
+        ≡ marks_of count (odd_rights nets.now joints.now)) }
+{
+    let odd = odd_rights(alloc, nets, joints)?;
+    marks_of(alloc, count, &odd)
 }
 
 /// Linear in the circuits.
@@ -41,10 +70,8 @@ pub fn odds_of(
         (plain_circuit right.now) (pins_of before.now) proposal.now) }
 {
     let joints = joints_of(alloc, left, right, before, proposal)?;
-    let odd_left = odd_lefts(alloc, &proposal.nets, &joints)?;
-    let odd_right = odd_rights(alloc, &proposal.nets, &joints)?;
-    let lefts = marks_of(alloc, left.nets.len(), &odd_left)?;
-    let rights = marks_of(alloc, right.nets.len(), &odd_right)?;
+    let lefts = odd_left_marks(alloc, left.nets.len(), &proposal.nets, &joints)?;
+    let rights = odd_right_marks(alloc, right.nets.len(), &proposal.nets, &joints)?;
     Ok(Odds { lefts, rights })
 }
 

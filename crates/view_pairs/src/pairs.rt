@@ -3,17 +3,19 @@
 ghost use Rattle.std.specs.Prelude.{◌≡◌, ◌<◌, ℕ, IfOk, OnOk, length, map};
 ghost use Rattle.net_model.specs.Rows.{plain_circuit};
 ghost use Rattle.view_pairs.specs.Alike.{pin_marks};
-ghost use Rattle.view_pairs.specs.Proposals.{AreProposed, IsProposal, is_told};
+ghost use Rattle.view_pairs.specs.Partners.{ArePartners};
+ghost use Rattle.view_pairs.specs.Proposals.{AreAlike, AreProposed, IsProposal, is_told};
 ghost use Rattle.view_cross.specs.Whole.{AreWhole};
+ghost use Rattle.view_cross.specs.declared.rows.Kind.TheVariants.{Net, Pin};
 ghost use Rattle.view_pairs.specs.Added.{AddsPair};
 ghost use Rattle.view_pairs.specs.Sure.{AreMatched, AreNamed, HaveSure};
 ghost use Rattle.view_pairs.specs.Only.{AreOnlyFirst, is_given};
-ghost use Rattle.view_pairs.specs.Wanted.{AreWanted, TakesWanted};
+ghost use Rattle.view_pairs.specs.Wanted.{AreWanted, TakesAlike, TakesWanted};
 ghost use Rattle.view_pairs.specs.Rows.{asked, proposal_rows};
 
 use crate::alike::{Sides, sides_of};
 use crate::couples::partners_of;
-use crate::partners::claimed;
+use crate::partners::{Couple, Partners, claimed};
 use crate::proposal::Proposal;
 use crate::rows::{proposal_rows, show};
 use crate::search::searched;
@@ -24,6 +26,44 @@ use match_types::Answer;
 use net_model::Circuit;
 use std::alloc::{AllocError, Global};
 use view_cross::{Kind, Row};
+
+// The partners of nets that couples give.
+fn net_partners(
+    alloc: Global,
+    sides: &Sides<'_>,
+    couples: &[Couple],
+) -> Result<Partners, AllocError>
+    requires left_pins { sides.now.left_pins.items ≡ pin_marks (plain_circuit sides.now.left.now) }
+    requires right_pins { sides.now.right_pins.items
+        ≡ pin_marks (plain_circuit sides.now.right.now) }
+    ensures partners { IfOk result (λ x. ArePartners (length (plain_circuit sides.now.left.now).nets)
+        (length (plain_circuit sides.now.right.now).nets) x) }
+    ensures alike { IfOk result (λ x. AreAlike (plain_circuit sides.now.left.now)
+        (plain_circuit sides.now.right.now) x Net x) }
+    ensures first { IfOk result (λ x. TakesAlike (plain_circuit sides.now.left.now)
+        (plain_circuit sides.now.right.now) x Net (length (plain_circuit sides.now.left.now).nets)
+        (length (plain_circuit sides.now.right.now).nets) couples.now x) }
+{
+    let none = claimed(alloc, 0, 0, &[])?;
+    let (n, m) = (sides.left.nets.len(), sides.right.nets.len());
+    partners_of(alloc, sides, &none, Kind::Net, n, m, couples)
+}
+
+// The partners of pins, the nets having these.
+fn pin_partners(alloc: Global, sides: &Sides<'_>, nets: &Partners) -> Result<Partners, AllocError>
+    requires left_pins { sides.now.left_pins.items ≡ pin_marks (plain_circuit sides.now.left.now) }
+    requires right_pins { sides.now.right_pins.items
+        ≡ pin_marks (plain_circuit sides.now.right.now) }
+    ensures partners { IfOk result (λ x. ArePartners (length (plain_circuit sides.now.left.now).pins)
+        (length (plain_circuit sides.now.right.now).pins) x) }
+    ensures alike { IfOk result (λ x. AreAlike (plain_circuit sides.now.left.now)
+        (plain_circuit sides.now.right.now) nets.now Pin x) }
+{
+    let (a, b) = (sides.left, sides.right);
+    let couples = pin_couples(alloc, nets, &a.pins, &b.pins, b.nets.len())?;
+    let (n, m) = (a.pins.len(), b.pins.len());
+    partners_of(alloc, sides, nets, Kind::Pin, n, m, &couples)
+}
 
 // The proposal that couples give.
 fn proposal_of(alloc: Global, sides: &Sides<'_>, wanted: &Wanted) -> Result<Proposal, AllocError>
@@ -36,12 +76,8 @@ fn proposal_of(alloc: Global, sides: &Sides<'_>, wanted: &Wanted) -> Result<Prop
         (plain_circuit sides.now.right.now) wanted.now x) }
 {
     let (a, b) = (sides.left, sides.right);
-    let none = claimed(alloc, 0, 0, &[])?;
-    let (n, m) = (a.nets.len(), b.nets.len());
-    let nets = partners_of(alloc, sides, &none, Kind::Net, n, m, &wanted.nets)?;
-    let on = pin_couples(alloc, &nets, &a.pins, &b.pins, m)?;
-    let (n, m) = (a.pins.len(), b.pins.len());
-    let pins = partners_of(alloc, sides, &nets, Kind::Pin, n, m, &on)?;
+    let nets = net_partners(alloc, sides, &wanted.nets)?;
+    let pins = pin_partners(alloc, sides, &nets)?;
     let (n, m) = (a.devices.len(), b.devices.len());
     let devices = partners_of(alloc, sides, &nets, Kind::Device, n, m, &wanted.devices)?;
     let (n, m) = (a.calls.len(), b.calls.len());

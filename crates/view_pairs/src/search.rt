@@ -46,6 +46,33 @@ fn push_named(
     Ok(())
 }
 
+// Adds those of both sides, equal names having one number.
+fn push_sides(
+    alloc: Global,
+    keys: &mut Vec<Key>,
+    graph: &Graph,
+    sides: &Sides<'_>,
+) -> Result<(), AllocError> {
+    let mut table = TextTable::new(alloc);
+    let (left, right) = (graph.left.first, graph.right.first);
+    push_named(
+        alloc,
+        keys,
+        &mut table,
+        left,
+        &sides.left.nets,
+        &sides.left_pins,
+    )?;
+    push_named(
+        alloc,
+        keys,
+        &mut table,
+        right,
+        &sides.right.nets,
+        &sides.right_pins,
+    )
+}
+
 impl Search {
     fn new(alloc: Global, sides: &Sides<'_>, before: &[Proposal]) -> Result<Search, AllocError> {
         let kinds = kinds_of(alloc, sides)?;
@@ -57,23 +84,7 @@ impl Search {
     // Nets are partners that are the only ones of a name.
     fn pair_names(&mut self, alloc: Global, sides: &Sides<'_>) -> Result<(), AllocError> {
         let mut keys = Vec::new(alloc);
-        let mut table = TextTable::new(alloc);
-        push_named(
-            alloc,
-            &mut keys,
-            &mut table,
-            self.graph.left.first,
-            &sides.left.nets,
-            &sides.left_pins,
-        )?;
-        push_named(
-            alloc,
-            &mut keys,
-            &mut table,
-            self.graph.right.first,
-            &sides.right.nets,
-            &sides.right_pins,
-        )?;
+        push_sides(alloc, &mut keys, &self.graph, sides)?;
         self.mates.pair(&mut keys, Choice::Lone);
         Ok(())
     }

@@ -3,7 +3,6 @@ use Rattle.flat_layout.specs.Names.{circuit_ending, circuit_names, circuit_needs
 use Rattle.circuit_phase.specs.Names.{folded_names}
 use Rattle.std.specs.Borrow.{Bor}
 use Rattle.net_names.specs.Folding.{folded_bytes}
-use Rattle.text_table.specs.Texts.{with_text}
 use Rattle.circuit_phase.proofs.Endings.{circuit_asks, name_more, names_end, names_long, name_at}
 use Rattle.circuit_phase.proofs.names.circuit_names.Goals as goal
 
@@ -13,8 +12,9 @@ loop-i-init c = rw c.new-names.ensures.items (rw c.new-earlier.ensures refl)
 pub loop-i-preserved : goal.loop-i-preserved
 loop-i-preserved c =
     let long = names_long c.args.cells.now in
-    name_more circuit_needs circuit_ending circuit_asks c.loop-i.earlier c.number.new.self c.loop-i.i (folded_names c.args.cells.now) c.loop-i.names.items c.push.new.self.items c.in_ok-name.name c.in_ok-circuit_name.field-0 (circuit_names [] 1 (folded_names c.args.cells.now))
-    (omega arith) (c.in_ok-name.ensures ∙ ap (λ (b : Bor (List ℕ)). folded_bytes b.now) c.index-cells-i.is ∙ name_at c.args.cells.now c.loop-i.i c.index-cells-i.result (omega arith)) c.in_ok-circuit_name.ensures (c.in_ok-number.ensures.texts ∙ ap (with_text c.loop-i.earlier) c.bytes.ensures.same) c.in_ok-push.ensures.items c.loop-i.invariant
+    let added = c.in_ok-push_circuit_name.ensures in
+    name_more circuit_needs circuit_ending circuit_asks c.loop-i.earlier c.push_circuit_name.new.earlier c.loop-i.i (folded_names c.args.cells.now) c.loop-i.names.items c.push_circuit_name.new.names.items _ _ (circuit_names [] 1 (folded_names c.args.cells.now))
+    (omega arith) (ap (λ (b : Bor (List ℕ)). folded_bytes b.now) c.index-cells-i.is ∙ name_at c.args.cells.now c.loop-i.i c.index-cells-i.result (omega arith)) refl added.earlier added.names c.loop-i.invariant
 
 pub returns : goal.returns
 returns c =

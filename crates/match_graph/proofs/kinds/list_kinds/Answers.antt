@@ -1,25 +1,17 @@
-use Rattle.std.proofs.Common.{ℕ, List, [], Option, sym, subst, ap, ◌∙◌}
-use Rattle.std.specs.Map.{lookup}
-use Rattle.std.specs.HashMap.{get, hash_map_len}
+use Rattle.std.proofs.Common.{ℕ, List, Option, ◌++◌, subst, ap, ap₂, ◌∙◌}
+use Rattle.std.specs.Prelude.{IfOk}
 use Rattle.net_model.specs.Rows.{plain_circuit}
-use Rattle.match_graph.specs.contracts.kinds.OwnPartialEq.TheImpl.{eq-value}
-use Rattle.match_graph.specs.declared.kinds.Kinds.{Kinds}
-use Rattle.match_graph.specs.declared.kinds.Own.{Own}
-use Rattle.match_graph.specs.Kinds.{Adds, IsNumbering, circuit_owns, name_in, named_owns}
 use Rattle.match_laws.specs.Circuits.{Own as PlainOwn}
-use Rattle.match_graph.proofs.Numbered.{adds_then, kinds_of, nothing, owns_named}
+use Rattle.match_graph.specs.Kinds.{AreKindsOf, name_in, named_owns}
+use Rattle.match_graph.proofs.Numbered.{owns_named}
 use Rattle.match_graph.proofs.kinds.list_kinds.Goals as goal
 
 pub returns : goal.returns
 returns c =
     let left = plain_circuit c.args.left.now in
     let right = plain_circuit c.args.right.now in
-    let first : Kinds = record { numbers = c.new.result; of_nodes = c.new-2.result } in
-    let start : IsNumbering [] (get eq-value.it c.new.result) (hash_map_len c.new.result) c.new-2.result.items
-    = subst (λ (xs : List ℕ). IsNumbering [] (get eq-value.it c.new.result) (hash_map_len c.new.result) xs) (sym c.new-2.ensures.items)
-    (subst (λ (n : ℕ). IsNumbering [] (get eq-value.it c.new.result) n []) (sym c.new.ensures.len) (nothing (get eq-value.it c.new.result) (λ q. ap (λ (es : List (Own × ℕ)). lookup (eq-value.it q) es) c.new.ensures.empty))) in
-    kinds_of _ (get eq-value.it c.add_circuit-2.new.self.numbers) (hash_map_len c.add_circuit-2.new.self.numbers) c.add_circuit-2.new.self.of_nodes.items
-    (adds_then first c.add_circuit.new.self c.add_circuit-2.new.self (circuit_owns c.args.told left) (circuit_owns c.args.told right)
-    (subst (λ (xs : List PlainOwn). Adds eq-value.it first c.add_circuit.new.self xs) (ap (λ (names : List (Option (List ℕ))). named_owns (name_in names) left) c.deref.ensures.value ∙ owns_named c.args.told left c.in_ok-left_names.left_names.items c.in_ok-left_names.ensures) c.in_ok-add_circuit.ensures)
-    (subst (λ (xs : List PlainOwn). Adds eq-value.it c.add_circuit.new.self c.add_circuit-2.new.self xs) (ap (λ (names : List (Option (List ℕ))). named_owns (name_in names) right) c.deref-2.ensures.value ∙ owns_named c.args.told right c.in_ok-right_names.right_names.items c.in_ok-right_names.ensures) c.in_ok-add_circuit-2.ensures)
-    [] start)
+    subst (λ (xs : List PlainOwn). IfOk c.kinds_by.result (λ kinds. AreKindsOf kinds.items xs))
+    (ap₂ (λ (xs ys : List PlainOwn). xs ++ ys)
+    (ap (λ (names : List (Option (List ℕ))). named_owns (name_in names) left) c.deref.ensures.value ∙ owns_named c.args.told left c.in_ok-left_names.left_names.items c.in_ok-left_names.ensures)
+    (ap (λ (names : List (Option (List ℕ))). named_owns (name_in names) right) c.deref-2.ensures.value ∙ owns_named c.args.told right c.in_ok-right_names.right_names.items c.in_ok-right_names.ensures))
+    c.kinds_by.ensures

@@ -1,4 +1,4 @@
-use Rattle.std.proofs.Common.{◌≡◌, ◌-◌, ◌≤◌, ℕ, List, ◌∷◌, length, take, drop, sym, subst, ap, ◌∙◌, rules}
+use Rattle.std.proofs.Common.{◌≡◌, ◌-◌, ◌≤◌, ℕ, List, ◌∷◌, length, take, drop, sym, subst, rules}
 use Rattle.std.specs.Prelude.{◌||◌}
 use Rattle.net_names.specs.Folding.{folded_bytes}
 use Rattle.text_table.specs.Texts.{has_text, with_text}
@@ -16,8 +16,7 @@ names-preserved c q =
     let some : 1 ≤ length rest = search rules in
     let more = take (length rest - 1) (drop 1 rest) in
     let e : rest ≡ x ∷ more = first_and_rest rest x some c.name-item.is in
-    let text : c.bytes.result.now ≡ folded_bytes x = search rules in
-    let new : c.number.new.self ≡ with_text table (folded_bytes x) = c.in_ok-number.ensures.texts ∙ ap (λ (t : List ℕ). with_text table t) text in
+    let new : c.add_folded.new.table ≡ with_text table (folded_bytes x) = c.in_ok-add_folded.ensures in
     let old = subst (λ (rs : List (List ℕ)). (has_text table (folded_bytes q) || has_name rs q) ≡ has_name names q) e (c.names.invariant q) in
     subst (λ (t : List (List ℕ)). (has_text t (folded_bytes q) || has_name more q) ≡ has_name names q) (sym new)
     (name_more table (folded_bytes x) (folded_bytes q) (has_name more q) (has_name names q) old)

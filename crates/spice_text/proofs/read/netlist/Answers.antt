@@ -1,11 +1,18 @@
-use Rattle.std.proofs.Common.{◌∙◌, refl}
+use Rattle.std.proofs.Common.{refl}
+use Rattle.std.proofs.lemmas.Result.{IfOk-weaker}
 use Rattle.net_model.specs.Rows.{plain_netlist}
 use Rattle.spice_text.proofs.MeansLemmas.{netlist_is}
 use Rattle.spice_text.proofs.read.netlist.Goals as goal
 
+pub needs_of-requires : goal.needs_of-requires
+needs_of-requires c = c.requires
+
 pub returns : goal.returns
 returns c =
-    let globals = c.in_ok-globals.globals.table in
-    netlist_is c.args.cards.circuits.items c.deref-2.result.now c.args.cards.circuits.items c.args.cards.globals.items c.deref.result.now globals globals c.deref-6.result.now
-    c.args.cards.names c.in_ok-rows.rows.items c.deref-5.result.now (plain_netlist record { circuits = c.in_ok-circuits.circuits }) c.deref-2.ensures.value refl c.deref.ensures.value
-    c.in_ok-globals.ensures.table refl (c.deref-6.ensures.value ∙ c.in_ok-globals.ensures.globals.names) c.deref-5.ensures.value c.requires.texts c.in_ok-rows.ensures c.in_ok-circuits.ensures
+    let needs = c.in_ok-needs.needs in
+    let cards = c.args.cards in
+    let has = c.in_ok-needs.ensures in
+    IfOk-weaker c.netlist_over.result _ _ (λ n h.
+    netlist_is cards.circuits.items cards.circuits.items cards.circuits.items cards.globals.items cards.globals.items needs.globals.table needs.globals.table needs.globals.names.items
+    cards.names needs.rows.items needs.rows.items (plain_netlist n) refl refl refl
+    has.table refl has.globals.names refl c.requires.texts has.rows h) c.netlist_over.ensures
