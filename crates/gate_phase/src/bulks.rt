@@ -2,34 +2,15 @@
 ghost use Rattle.std.specs.Prelude.{◌≡◌, map, IfOk};
 ghost use Rattle.flat_layout.specs.Regions.{ground_of};
 ghost use Rattle.net_phase.specs.Wires.{ground_line};
-ghost use Rattle.rule_layers.specs.Meaning.{grounds_of};
 ghost use Rattle.rule_text.specs.Seen.{rules_seen};
 ghost use Rattle.gate_phase.specs.Judged.{rule_grounds};
 ghost use Rattle.gate_phase.specs.Terminals.{grounds_seen};
 
 use crate::device::{device_at, device_count};
-use list_base::small;
+use net_phase::ground_lines;
 use net_walk::Grounded;
 use rule_text::RuleSet;
 use std::alloc::{AllocError, Global};
-use text_table::TextTable;
-
-// What each line of a global joins, by the global's place among the different ones.
-fn ground_lines(alloc: Global, rules: &RuleSet) -> Result<Vec<Grounded>, AllocError>
-    ensures { IfOk result (λ v. map ground_line v.items ≡ grounds_of (rules_seen rules.now)) }
-{
-    let mut names = TextTable::new(alloc);
-    let mut lines = Vec::new(alloc);
-    for line in &rules.globals {
-        let global = names.number(alloc, line.1.bytes())?;
-        let place = small(global).ok_or(AllocError)?;
-        lines.push(Grounded {
-            conductor: line.0,
-            global: place,
-        })?;
-    }
-    Ok(lines)
-}
 
 // The global of the first line that names the conductor.
 fn ground(lines: &[Grounded], conductor: u32) -> Option<u32>
@@ -56,14 +37,14 @@ pub struct Grounds {
 pub fn device_grounds(alloc: Global, rules: &RuleSet) -> Result<Vec<Grounds>, AllocError>
     ensures { IfOk result (λ v. map grounds_seen v.items ≡ rule_grounds (rules_seen rules.now)) }
 {
-    let lines = ground_lines(alloc, rules)?;
+    let grounds = ground_lines(alloc, rules)?;
     let mut found = Vec::new(alloc);
     let count = device_count(rules)?;
     for number in 0..count {
         let device = device_at(rules, number);
         found.push(Grounds {
-            ends: ground(&lines, device.ts),
-            bulk: ground(&lines, device.tb),
+            ends: ground(&grounds.lines, device.ts),
+            bulk: ground(&grounds.lines, device.tb),
         })?;
     }
     Ok(found)

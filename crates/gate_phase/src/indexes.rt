@@ -1,6 +1,6 @@
 //! What cells hold themselves, looked into by windows.
-ghost use Rattle.std.specs.Prelude.{◌≡◌, ◌<◌, ◌^◌, ℕ, List, Some, get_or, length, max, IfOk, IfSome};
-ghost use Rattle.std.specs.Prelude.{IsSome};
+ghost use Rattle.std.specs.Prelude.{◌≡◌, ◌<◌, ◌^◌, ℕ, List, [], Some, get_or, length, max};
+ghost use Rattle.std.specs.Prelude.{IfOk, IfSome, IsSome};
 ghost use Rattle.geo_base.specs.declared.shapes.Rect.{Rect};
 ghost use Rattle.cell_graph.specs.Linked.{plain};
 ghost use Rattle.flat_layout.specs.Layout.{IsReached};
@@ -9,7 +9,8 @@ ghost use Rattle.deep_tables.specs.Layers.{AreLayers, layer_of};
 ghost use Rattle.rule_text.specs.Reaches.{reaches};
 ghost use Rattle.rule_text.specs.Sound.{IsSound};
 ghost use Rattle.gate_phase.specs.Devices.{device_reach, layer_reach, region_reach};
-ghost use Rattle.gate_phase.specs.Indexes.{AreIndexes, AreMetOf, index_in, index_lists};
+ghost use Rattle.gate_phase.specs.Indexes.{AreAllIndexes, AreIndexes, AreMetOf};
+ghost use Rattle.gate_phase.specs.Indexes.{index_in, index_lists};
 
 use crate::device::{Device, Region};
 use crate::met::{found_rects, met_rects};
@@ -80,6 +81,39 @@ fn cell_indexes(
     Ok(indexes)
 }
 
+// A list for each cell, without an index.
+fn no_indexes(alloc: Global, cells: u32) -> Result<Vec<Vec<Option<TileIndex>>>, AllocError>
+    ensures count { IfOk result (λ v. length v.items ≡ cells) }
+    ensures none { IfOk result (λ v. (k : ℕ) → get_or (index_lists v.items) k [] ≡ []) }
+{
+    let mut indexes = Vec::new(alloc);
+    for _ in 0..cells {
+        indexes.push(Vec::new(alloc))?;
+    }
+    Ok(indexes)
+}
+
+// The indexes of what each reached cell holds itself of the names of device rules.
+fn all_indexes(
+    alloc: Global,
+    design: &Design,
+    rules: &RuleSet,
+    layers: &Layers,
+) -> Result<Vec<Vec<Option<TileIndex>>>, AllocError>
+    requires few { length rules.now.names.items < 2 ^ 32 }
+    requires layers { AreLayers (plain design.now) (rules_seen rules.now) layers.now }
+    ensures { IfOk result (λ v. AreAllIndexes layers.now (index_lists v.items)) }
+{
+    design.sound();
+    let marks = device_names(alloc, rules)?;
+    let mut indexes = no_indexes(alloc, design.cells())?;
+    for cell in design.order() {
+        let found = cell_indexes(alloc, layers, &marks, *cell)?;
+        indexes[*cell as usize] = found;
+    }
+    Ok(indexes)
+}
+
 // The index of what a cell holds itself of a name, where there is one.
 fn index_at<'b>(
     indexes: &'b [Vec<Option<TileIndex>>],
@@ -113,16 +147,7 @@ impl<'a> IndexedLayers<'a> {
         ensures table { IfOk result (λ x. x.table ≡ layers.now) }
         ensures reaches { IfOk result (λ x. x.reaches ≡ reaches rules.now.names.items) }
     {
-        design.sound();
-        let marks = device_names(alloc, rules)?;
-        let mut indexes = Vec::new(alloc);
-        for _ in 0..design.cells() {
-            indexes.push(Vec::new(alloc))?;
-        }
-        for cell in design.order() {
-            let found = cell_indexes(alloc, layers, &marks, *cell)?;
-            indexes[*cell as usize] = found;
-        }
+        let indexes = all_indexes(alloc, design, rules, layers)?;
         let reaches = reaches(alloc, &rules.names)?;
         Ok(IndexedLayers {
             layers,

@@ -21,15 +21,12 @@ use deep_tables::{CellNets, Gate, GateKey, Layers, Nets, Zones, free_graph};
 use job_board::Crew;
 use job_graph::Graph;
 use list_base::small;
-use net_phase::{Wired, known_nets};
+use net_phase::{Wired, is_large, known_nets};
 use rule_text::RuleSet;
 use std::alloc::{AllocError, Global};
 use std::marker::Model;
 use std::snapshot::Snapshot;
 use std::thread::Threads;
-
-// A cell of fewer items is worked by one worker: a thread would cost more than it gives.
-const LARGE: usize = 10_000;
 
 /// What the phases of a layout read, its disturbed squares, layers and nets, and the jobs of both
 /// phases: they go through the design's order. As they read the tables of all cells, none waits for
@@ -174,7 +171,7 @@ impl<'a> DeviceWork<'a> {
     // Whether a cell has so many items that a further thread costs less than it gives.
     fn is_large(&self, cell: u32) -> bool {
         match self.nets.get(cell as usize) {
-            Some(Some(nets)) => nets.items.len() >= LARGE,
+            Some(Some(nets)) => is_large(nets.items.len()),
             _ => false,
         }
     }

@@ -1,17 +1,14 @@
 //! The links of a cell, by up to three workers where it is large.
-ghost use Rattle.std.specs.Prelude.{◌≡◌, ◌↔◌, ◌≤◌, ℕ, [], length, IfOk};
+ghost use Rattle.std.specs.Prelude.{◌≡◌, [], length, IfOk};
 ghost use Rattle.cell_graph.specs.Linked.{plain};
 ghost use Rattle.flat_layout.specs.Nets.{AreRightBelow, items_of};
-ghost use Rattle.flat_layout.specs.Regions.{IsJoined};
 ghost use Rattle.link_classes.specs.Classes.{AreInRange};
 ghost use Rattle.net_link_laws.specs.Found.{AreAllFound};
 ghost use Rattle.net_link_laws.specs.Places.{places_of};
 ghost use Rattle.net_walk.specs.Beside.{AddsBeside};
 ghost use Rattle.net_walk.specs.Pairs.{AddsChildren, AddsPairs};
-ghost use Rattle.net_walk.specs.Together.{AreFirsts};
-ghost use Rattle.touching_pieces.specs.Pairs.{AreJoined};
 ghost use Rattle.net_phase.specs.Below.{tables_seen, wiring_seen};
-ghost use Rattle.net_phase.specs.Linked.{AreApartLinks, AreSquareLinks};
+ghost use Rattle.net_phase.specs.Linked.{AreApartLinks, AreSquareLinks, IsLinkable};
 ghost use Rattle.net_phase.specs.Wires.{AreWires};
 
 use crate::below::Below;
@@ -25,8 +22,10 @@ use std::alloc::{AllocError, Global};
 use std::thread::Threads;
 use touching_pieces::Joined;
 
-// A cell of fewer items is linked by one worker: a thread would cost more than it gives.
-const LARGE: u32 = 10_000;
+/// Whether a cell has so many items that a further thread costs less than it gives: 10,000 or more.
+pub fn is_large(items: usize) -> bool {
+    items >= 10_000
+}
 
 // Those who work one of two works side by side: half of the workers.
 fn half<'a, R: Threads, G>(crew: &Crew<'a, R, G>) -> Crew<'a, R, G> {
@@ -43,13 +42,8 @@ fn some_placed(
     joins: &[Joined],
 ) -> Result<Vec<Link>, AllocError>
     requires pairs { AreInRange (length (places_of (plain below.now.design) cell)) pairs.now }
-    requires right { AreRightBelow (plain below.now.design) (wiring_seen below.now)
-        (tables_seen below.now) cell }
-    requires firsts { AreFirsts (plain below.now.design) (wiring_seen below.now)
-        (tables_seen below.now) cell firsts.now }
-    requires room { length (items_of (plain below.now.design) (wiring_seen below.now)
-        (tables_seen below.now) cell) ≤ 4294967295 }
-    requires joins { (c e : ℕ) → AreJoined joins.now c e ↔ IsJoined (wiring_seen below.now) c e }
+    requires site { IsLinkable (plain below.now.design) (wiring_seen below.now)
+        (tables_seen below.now) cell firsts.now joins.now }
     ensures { IfOk result (λ v. AddsPairs (plain below.now.design) (wiring_seen below.now)
         (tables_seen below.now) cell pairs.now [] v.items) }
 {
@@ -71,13 +65,8 @@ fn both_halves<R: Threads, G>(
 ) -> Result<(Vec<Link>, Vec<Link>), AllocError>
     requires some { AreInRange (length (places_of (plain below.now.design) cell)) some.now }
     requires others { AreInRange (length (places_of (plain below.now.design) cell)) others.now }
-    requires right { AreRightBelow (plain below.now.design) (wiring_seen below.now)
-        (tables_seen below.now) cell }
-    requires firsts { AreFirsts (plain below.now.design) (wiring_seen below.now)
-        (tables_seen below.now) cell firsts.now }
-    requires room { length (items_of (plain below.now.design) (wiring_seen below.now)
-        (tables_seen below.now) cell) ≤ 4294967295 }
-    requires joins { (c e : ℕ) → AreJoined joins.now c e ↔ IsJoined (wiring_seen below.now) c e }
+    requires site { IsLinkable (plain below.now.design) (wiring_seen below.now)
+        (tables_seen below.now) cell firsts.now joins.now }
     ensures some { IfOk result (λ v. AddsPairs (plain below.now.design) (wiring_seen below.now)
         (tables_seen below.now) cell some.now [] v.0.items) }
     ensures others { IfOk result (λ v. AddsPairs (plain below.now.design) (wiring_seen below.now)
@@ -85,26 +74,16 @@ fn both_halves<R: Threads, G>(
 {
     let first = move || -> Result<Vec<Link>, AllocError>
         requires { AreInRange (length (places_of (plain below.now.design) cell)) some.now
-            × AreRightBelow (plain below.now.design) (wiring_seen below.now)
-            (tables_seen below.now) cell
-            × AreFirsts (plain below.now.design) (wiring_seen below.now)
-            (tables_seen below.now) cell firsts.now
-            × (length (items_of (plain below.now.design) (wiring_seen below.now)
-            (tables_seen below.now) cell) ≤ 4294967295)
-            × ((c e : ℕ) → AreJoined joins.now c e ↔ IsJoined (wiring_seen below.now) c e) }
+            × IsLinkable (plain below.now.design) (wiring_seen below.now) (tables_seen below.now)
+            cell firsts.now joins.now }
         ensures { IfOk result (λ v. AddsPairs (plain below.entry.now.design)
             (wiring_seen below.entry.now) (tables_seen below.entry.now) cell some.entry.now []
             v.items) }
     { some_placed(alloc, below, cell, some, firsts, joins) };
     let second = move || -> Result<Vec<Link>, AllocError>
         requires { AreInRange (length (places_of (plain below.now.design) cell)) others.now
-            × AreRightBelow (plain below.now.design) (wiring_seen below.now)
-            (tables_seen below.now) cell
-            × AreFirsts (plain below.now.design) (wiring_seen below.now)
-            (tables_seen below.now) cell firsts.now
-            × (length (items_of (plain below.now.design) (wiring_seen below.now)
-            (tables_seen below.now) cell) ≤ 4294967295)
-            × ((c e : ℕ) → AreJoined joins.now c e ↔ IsJoined (wiring_seen below.now) c e) }
+            × IsLinkable (plain below.now.design) (wiring_seen below.now) (tables_seen below.now)
+            cell firsts.now joins.now }
         ensures { IfOk result (λ v. AddsPairs (plain below.entry.now.design)
             (wiring_seen below.entry.now) (tables_seen below.entry.now) cell others.entry.now []
             v.items) }
@@ -122,13 +101,8 @@ fn placed_links<R: Threads, G>(
     joins: &[Joined],
     crew: &Crew<R, G>,
 ) -> Result<Vec<Link>, AllocError>
-    requires right { AreRightBelow (plain below.now.design) (wiring_seen below.now)
-        (tables_seen below.now) cell }
-    requires firsts { AreFirsts (plain below.now.design) (wiring_seen below.now)
-        (tables_seen below.now) cell firsts.now }
-    requires room { length (items_of (plain below.now.design) (wiring_seen below.now)
-        (tables_seen below.now) cell) ≤ 4294967295 }
-    requires joins { (c e : ℕ) → AreJoined joins.now c e ↔ IsJoined (wiring_seen below.now) c e }
+    requires site { IsLinkable (plain below.now.design) (wiring_seen below.now)
+        (tables_seen below.now) cell firsts.now joins.now }
     ensures { IfOk result (λ v. AddsChildren (plain below.now.design) (wiring_seen below.now)
         (tables_seen below.now) cell [] v.items) }
 {
@@ -150,13 +124,8 @@ fn apart_links<R: Threads, G>(
     joins: &[Joined],
     crew: &Crew<R, G>,
 ) -> Result<Vec<Link>, AllocError>
-    requires right { AreRightBelow (plain below.now.design) (wiring_seen below.now)
-        (tables_seen below.now) cell }
-    requires firsts { AreFirsts (plain below.now.design) (wiring_seen below.now)
-        (tables_seen below.now) cell firsts.now }
-    requires room { length (items_of (plain below.now.design) (wiring_seen below.now)
-        (tables_seen below.now) cell) ≤ 4294967295 }
-    requires joins { (c e : ℕ) → AreJoined joins.now c e ↔ IsJoined (wiring_seen below.now) c e }
+    requires site { IsLinkable (plain below.now.design) (wiring_seen below.now)
+        (tables_seen below.now) cell firsts.now joins.now }
     ensures { IfOk result (λ v. AreApartLinks (plain below.now.design) (wiring_seen below.now)
         (tables_seen below.now) cell v.items) }
 {
@@ -174,13 +143,8 @@ fn beside_links(
     firsts: &[u32],
     joins: &[Joined],
 ) -> Result<Vec<Link>, AllocError>
-    requires right { AreRightBelow (plain below.now.design) (wiring_seen below.now)
-        (tables_seen below.now) cell }
-    requires firsts { AreFirsts (plain below.now.design) (wiring_seen below.now)
-        (tables_seen below.now) cell firsts.now }
-    requires room { length (items_of (plain below.now.design) (wiring_seen below.now)
-        (tables_seen below.now) cell) ≤ 4294967295 }
-    requires joins { (c e : ℕ) → AreJoined joins.now c e ↔ IsJoined (wiring_seen below.now) c e }
+    requires site { IsLinkable (plain below.now.design) (wiring_seen below.now)
+        (tables_seen below.now) cell firsts.now joins.now }
     ensures { IfOk result (λ v. AddsBeside (plain below.now.design) (wiring_seen below.now)
         (tables_seen below.now) cell [] v.items) }
 {
@@ -198,13 +162,8 @@ fn both_kinds<R: Threads, G>(
     joins: &[Joined],
     crew: &Crew<R, G>,
 ) -> Result<(Vec<Link>, Vec<Link>), AllocError>
-    requires right { AreRightBelow (plain below.now.design) (wiring_seen below.now)
-        (tables_seen below.now) cell }
-    requires firsts { AreFirsts (plain below.now.design) (wiring_seen below.now)
-        (tables_seen below.now) cell firsts.now }
-    requires room { length (items_of (plain below.now.design) (wiring_seen below.now)
-        (tables_seen below.now) cell) ≤ 4294967295 }
-    requires joins { (c e : ℕ) → AreJoined joins.now c e ↔ IsJoined (wiring_seen below.now) c e }
+    requires site { IsLinkable (plain below.now.design) (wiring_seen below.now)
+        (tables_seen below.now) cell firsts.now joins.now }
     ensures apart { IfOk result (λ v. AreApartLinks (plain below.now.design) (wiring_seen below.now)
         (tables_seen below.now) cell v.0.items) }
     ensures beside { IfOk result (λ v. AddsBeside (plain below.now.design) (wiring_seen below.now)
@@ -212,24 +171,14 @@ fn both_kinds<R: Threads, G>(
 {
     let few = &half(crew);
     let beside = move || -> Result<Vec<Link>, AllocError>
-        requires { AreRightBelow (plain below.now.design) (wiring_seen below.now)
-            (tables_seen below.now) cell
-            × AreFirsts (plain below.now.design) (wiring_seen below.now)
-            (tables_seen below.now) cell firsts.now
-            × (length (items_of (plain below.now.design) (wiring_seen below.now)
-            (tables_seen below.now) cell) ≤ 4294967295)
-            × ((c e : ℕ) → AreJoined joins.now c e ↔ IsJoined (wiring_seen below.now) c e) }
+        requires { IsLinkable (plain below.now.design) (wiring_seen below.now)
+            (tables_seen below.now) cell firsts.now joins.now }
         ensures { IfOk result (λ v. AddsBeside (plain below.entry.now.design)
             (wiring_seen below.entry.now) (tables_seen below.entry.now) cell [] v.items) }
     { beside_links(alloc, below, cell, firsts, joins) };
     let apart = move || -> Result<Vec<Link>, AllocError>
-        requires { AreRightBelow (plain below.now.design) (wiring_seen below.now)
-            (tables_seen below.now) cell
-            × AreFirsts (plain below.now.design) (wiring_seen below.now)
-            (tables_seen below.now) cell firsts.now
-            × (length (items_of (plain below.now.design) (wiring_seen below.now)
-            (tables_seen below.now) cell) ≤ 4294967295)
-            × ((c e : ℕ) → AreJoined joins.now c e ↔ IsJoined (wiring_seen below.now) c e) }
+        requires { IsLinkable (plain below.now.design) (wiring_seen below.now)
+            (tables_seen below.now) cell firsts.now joins.now }
         ensures { IfOk result (λ v. AreApartLinks (plain below.entry.now.design)
             (wiring_seen below.entry.now) (tables_seen below.entry.now) cell v.items) }
     { apart_links(alloc, below, cell, firsts, joins, few) };
@@ -246,13 +195,8 @@ fn square_links<R: Threads, G>(
     joins: &[Joined],
     crew: &Crew<R, G>,
 ) -> Result<Vec<Link>, AllocError>
-    requires right { AreRightBelow (plain below.now.design) (wiring_seen below.now)
-        (tables_seen below.now) cell }
-    requires firsts { AreFirsts (plain below.now.design) (wiring_seen below.now)
-        (tables_seen below.now) cell firsts.now }
-    requires room { length (items_of (plain below.now.design) (wiring_seen below.now)
-        (tables_seen below.now) cell) ≤ 4294967295 }
-    requires joins { (c e : ℕ) → AreJoined joins.now c e ↔ IsJoined (wiring_seen below.now) c e }
+    requires site { IsLinkable (plain below.now.design) (wiring_seen below.now)
+        (tables_seen below.now) cell firsts.now joins.now }
     ensures { IfOk result (λ v. AreSquareLinks (plain below.now.design) (wiring_seen below.now)
         (tables_seen below.now) cell v.items) }
 {
@@ -282,7 +226,7 @@ pub fn cell_links<R: Threads, G>(
         (tables_seen below.now) cell v.items) }
 {
     let globals = wires.globals;
-    if count < LARGE {
+    if !is_large(count as usize) {
         return all_links(
             alloc,
             below,

@@ -1,15 +1,17 @@
 //! What the rules join, by numbers.
-ghost use Rattle.std.specs.Prelude.{◌≡◌, ◌++◌, ◌||◌, ◌⊎◌, ◌↔◌, List, ℕ, true};
+ghost use Rattle.std.specs.Prelude.{◌≡◌, ◌++◌, ◌||◌, ◌⊎◌, ◌↔◌, List, [], ◌∷◌, ℕ, true};
 ghost use Rattle.std.specs.Prelude.{length, map, flat_map, IfOk, OnOk};
 ghost use Rattle.std.specs.List.{Contains};
 ghost use Rattle.flat_layout.specs.Regions.{IsJoined};
-ghost use Rattle.rule_layers.specs.Meaning.{globals_of, grounds_of, wiring_of};
+ghost use Rattle.rule_layers.specs.Meaning.{globals_of, grounds_of, line, wiring_of};
 ghost use Rattle.rule_text.specs.Rules.{has_texts};
 ghost use Rattle.rule_text.specs.Seen.{rules_seen};
+ghost use Rattle.text_table.specs.Texts.{place_of, with_text};
 ghost use Rattle.touching_pieces.specs.Pairs.{AreJoined};
 ghost use Rattle.net_phase.specs.Wires.{AreWires, ground_line, join_line, joined_by};
 
-use list_base::small;
+use list_base::{number, small};
+use net_names::Name;
 use net_walk::Grounded;
 use rule_text::RuleSet;
 use std::alloc::{AllocError, Global};
@@ -27,11 +29,11 @@ pub struct Wires {
     pub globals: u32,
 }
 
-// What a global's line joins, and how many different globals there are.
+/// What each line of a global joins, and how many different globals there are.
 #[derive(Drop)]
-struct Grounds {
-    lines: Vec<Grounded>,
-    globals: u32,
+pub struct Grounds {
+    pub lines: Vec<Grounded>,
+    pub globals: u32,
 }
 
 fn has_labels(rules: &RuleSet, line: &(u32, u32)) -> bool
@@ -118,8 +120,29 @@ fn joins(alloc: Global, rules: &RuleSet) -> Result<Vec<Joined>, AllocError>
     joins_by(alloc, rules, &lines)
 }
 
-// Each line of a global, by the global's place among the different ones.
-fn ground_lines(alloc: Global, rules: &RuleSet) -> Result<Grounds, AllocError>
+// Adds what a line of a global joins, by the global's place among the different ones.
+fn push_ground(
+    alloc: Global,
+    global: &(u32, Name),
+    names: &mut TextTable,
+    lines: &mut Vec<Grounded>,
+) -> Result<(), AllocError>
+    ensures names { OnOk result (names.new ≡ with_text names.old global.now.1) }
+    ensures lines { OnOk result (map ground_line lines.new.items ≡ map ground_line lines.old.items
+        ++ line global.now.0 (place_of names.old global.now.1) ∷ []) }
+{
+    let at = names.number(alloc, global.1.bytes())?;
+    let place = number(at)?;
+    lines.push(Grounded {
+        conductor: global.0,
+        global: place,
+    })?;
+    Ok(())
+}
+
+/// Each line of a global, by the global's place among the different ones: linear in the lines. 2^32
+/// globals are refused.
+pub fn ground_lines(alloc: Global, rules: &RuleSet) -> Result<Grounds, AllocError>
     ensures lines { IfOk result (λ v. map ground_line v.lines.items
         ≡ grounds_of (rules_seen rules.now)) }
     ensures globals { IfOk result (λ v. v.globals ≡ length (globals_of (rules_seen rules.now))) }
@@ -127,14 +150,9 @@ fn ground_lines(alloc: Global, rules: &RuleSet) -> Result<Grounds, AllocError>
     let mut names = TextTable::new(alloc);
     let mut lines = Vec::new(alloc);
     for line in &rules.globals {
-        let global = names.number(alloc, line.1.bytes())?;
-        let place = small(global).ok_or(AllocError)?;
-        lines.push(Grounded {
-            conductor: line.0,
-            global: place,
-        })?;
+        push_ground(alloc, line, &mut names, &mut lines)?;
     }
-    let globals = small(names.len()).ok_or(AllocError)?;
+    let globals = number(names.len())?;
     Ok(Grounds { lines, globals })
 }
 

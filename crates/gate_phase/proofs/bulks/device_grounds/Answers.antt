@@ -17,7 +17,7 @@ loop-number-preserved c =
     let is = device_is r n x u.0 c.device_at-device.ensures u.1 in
     let g : Grounds = record { ends = c.ground.result; bulk = c.ground-in-loop-number.result } in
     one_found (grounds_by (wiring_of r)) grounds_seen (device_rules r) c.loop-number.found.items c.push.new.self.items n u.0 g u.1 c.in_ok-push.ensures.items
-    (grounds_same (wiring_of r) u.0 x c.in_ok-lines.lines.items g c.in_ok-lines.ensures is.ts is.tb
+    (grounds_same (wiring_of r) u.0 x c.in_ok-grounds.grounds.lines.items g c.in_ok-grounds.ensures.lines is.ts is.tb
     (c.ground.ensures ∙ ap (λ (l : List Grounded). ground_of x.ts (map ground_line l)) c.deref.ensures.value) (c.ground-in-loop-number.ensures ∙ ap (λ (l : List Grounded). ground_of x.tb (map ground_line l)) c.deref-in-loop-number.ensures.value)) c.loop-number.invariant
 
 pub returns : goal.returns

@@ -9,7 +9,7 @@ pub own_links-requires-clause-room : goal.own_links-requires-clause-room
 own_links-requires-clause-room g c =
     let v = c.args.below.now in
     let long = items_long (plain v.design) (wiring_seen v) (tables_seen v) c.args.cell in
-    let room = c.requires.room in
+    let room = c.requires.site.room in
     omega (arith, long, room)
 
 pub returns : goal.returns

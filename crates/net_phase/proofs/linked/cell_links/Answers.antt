@@ -16,11 +16,19 @@ all_links-requires-clause-joins g c = λ x e.
 
 pub all_links-requires-clause-lines : goal.all_links-requires-clause-lines
 all_links-requires-clause-lines g c = λ x n.
-    subst (λ (l : List Grounded). IsGroundedBy l x n ↔ IsGrounded (wiring_seen c.args.below.now) x n) (sym c.deref-then-count-lt-LARGE.ensures.value) (c.requires.wires.grounds x n)
+    subst (λ (l : List Grounded). IsGroundedBy l x n ↔ IsGrounded (wiring_seen c.args.below.now) x n) (sym c.deref-then-not-is_large.ensures.value) (c.requires.wires.grounds x n)
 
-pub square_links-requires-clause-joins : goal.square_links-requires-clause-joins
-square_links-requires-clause-joins g c = λ x e.
-    subst (λ (l : List Joined). AreJoined l x e ↔ IsJoined (wiring_seen c.args.below.now) x e) (sym c.deref-3.ensures.value) (c.requires.wires.joins x e)
+pub square_links-requires : goal.square_links-requires
+square_links-requires g c =
+    let v = c.args.below.now in
+    record {
+      site = record {
+        right = c.requires.right;
+        firsts = rw c.deref-2.ensures.value c.in_ok-firsts.ensures;
+        room = (let long = items_long (plain v.design) (wiring_seen v) (tables_seen v) c.args.cell in let count = c.requires.count in omega (arith, long, count));
+        joins = λ x e. subst (λ (l : List Joined). AreJoined l x e ↔ IsJoined (wiring_seen v) x e) (sym c.deref-3.ensures.value) (c.requires.wires.joins x e);
+      };
+    }
 
 pub global_links-requires-clause-lines : goal.global_links-requires-clause-lines
 global_links-requires-clause-lines g c = λ x n.

@@ -1,44 +1,8 @@
-use Rattle.std.proofs.Common.{◌≡◌, ◌∙◌, ◌≤◌, ℕ, List, length, length-set, get_or, slice_index, ap, sym, subst, arith}
-use Rattle.cell_graph.specs.Linked.{plain}
-use Rattle.flat_layout.specs.Layout.{IsReached}
+use Rattle.std.proofs.Common.{◌≤◌, List, sym, subst}
 use Rattle.std.specs.List.{All}
 use Rattle.rule_text.specs.Reaches.{MOST_REACH, reaches}
-use Rattle.rule_text.specs.Seen.{rules_seen}
 use Rattle.rule_text.specs.declared.rules.LayerRule.{LayerRule}
-use Rattle.net_phase.proofs.Layering.{layer_there}
-use Rattle.gate_phase.specs.Indexes.{index_lists}
-use Rattle.gate_phase.proofs.Indexing.{cell_set, no_indexes}
 use Rattle.gate_phase.proofs.indexes.IndexedLayers.new.Goals as goal
 
-pub loop-cell-init : goal.loop-cell-init
-loop-cell-init c = record {
-  long = c.loop.invariant.long ∙ (let past = c.loop-test.false in omega arith);
-  right = no_indexes c.args.layers.now (index_lists c.loop.indexes.items) c.loop.invariant.none;
-}
-
-pub cell_indexes-requires-clause-layers : goal.cell_indexes-requires-clause-layers
-cell_indexes-requires-clause-layers c = λ i lt.
-    let d = c.args.design.now in
-    let n = c.loop-cell.cell-index in
-    let long = ap (λ (o : List ℕ). length o) c.order-cell-items.ensures in
-    let same : get_or c.order-cell-items.result.now n 0 ≡ slice_index d.order n = ap (λ (o : List ℕ). slice_index o n) c.order-cell-items.ensures in
-    let marks = c.in_ok-marks.ensures in
-    layer_there (plain d) (rules_seen c.args.rules.now) c.args.layers.now _ i c.requires.layers
-    (subst (λ k. IsReached (plain d) k) (sym same) (c.sound.ensures.order.reached n (omega (arith, long)))) (omega (arith, marks))
-
-pub loop-cell-preserved : goal.loop-cell-preserved
-loop-cell-preserved c =
-    let d = c.args.design.now in
-    let n = c.loop-cell.cell-index in
-    let all = c.loop-cell.indexes.items in
-    let long = ap (λ (o : List ℕ). length o) c.order-cell-items.ensures in
-    let same : get_or c.order-cell-items.result.now n 0 ≡ slice_index d.order n = ap (λ (o : List ℕ). slice_index o n) c.order-cell-items.ensures in
-    let inside = c.sound.ensures.order.inside n (omega (arith, long)) in
-    let whole = c.loop-cell.invariant.long in
-    record {
-      long = length-set all (get_or c.order-cell-items.result.now n 0) c.in_ok-found.found ∙ whole;
-      right = cell_set c.args.layers.now all (get_or c.order-cell-items.result.now n 0) c.in_ok-found.found (omega (arith, same, inside, whole)) c.loop-cell.invariant.right c.in_ok-found.ensures;
-    }
-
 pub reaches-requires : goal.reaches-requires
-reaches-requires c = subst (λ (l : List LayerRule). All (λ n. n ≤ MOST_REACH) (reaches l)) (sym c.deref-2.ensures.value) c.requires.rules.formed.near
+reaches-requires c = subst (λ (l : List LayerRule). All (λ n. n ≤ MOST_REACH) (reaches l)) (sym c.deref.ensures.value) c.requires.rules.formed.near
