@@ -1,6 +1,9 @@
-//! Tests of the reader of layout streams.
+//! Tests of the reader of layout streams, and of the generated chip: lengths and checksums of texts
+//! that another program wrote.
 #![tactic(auto)]
 
+#[cfg(test)]
+mod made;
 #[cfg(test)]
 mod outlines;
 #[cfg(test)]

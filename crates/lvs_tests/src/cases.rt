@@ -73,7 +73,8 @@ macro_rules! text {
     };
 }
 
-pub const CASES: [Case; 28] = [
+/// Outlines of one layer.
+pub static OUTLINES: [Case; 6] = [
     Case {
         name: "both ways round",
         layout: &[
@@ -167,6 +168,10 @@ pub const CASES: [Case; 28] = [
         rules: COPY,
         wanted: &[(10, 0, &[[-5, -5, 5, 5], [10, 0, 20, 10], [20, 10, 30, 20]])],
     },
+];
+
+/// Outlines that overlap or touch.
+pub static TOUCHES: [Case; 4] = [
     // Rows 0 to 5 hold one, 5 to 10 both, 10 to 15 the other. A third within them adds nothing.
     Case {
         name: "overlap",
@@ -234,6 +239,10 @@ pub const CASES: [Case; 28] = [
             (13, 0, &[[0, 0, 10, 10]]),
         ],
     },
+];
+
+/// Boxes and paths.
+pub static FORMS: [Case; 7] = [
     // From the upper right corner; without height; there and back along two edges of its span.
     Case {
         name: "boxes",
@@ -336,6 +345,10 @@ pub const CASES: [Case; 28] = [
             ],
         )],
     },
+];
+
+/// Rules of several lines.
+pub static OPERATORS: [Case; 6] = [
     Case {
         name: "empty results",
         layout: &[
@@ -479,6 +492,10 @@ pub const CASES: [Case; 28] = [
             (10, 1, &[[5, 0, 10, 10]]),
         ],
     },
+];
+
+/// Layers, datatypes and the farthest coordinates.
+pub static LAYERS: [Case; 5] = [
     // Texts cover nothing and aren't written.
     Case {
         name: "labels",

@@ -59,13 +59,26 @@ pub fn drawing<'a>(layout: &'a [u8], rules: &'a str) -> Inputs<'a> {
 }
 
 /// What a run left.
-#[derive(Debug, Drop)]
+#[derive(Debug)]
 pub struct Ran {
     pub code: u8,
     pub line: Vec<u8>,
     pub shapes: Option<Vec<u8>>,
     pub netlist: Option<Vec<u8>>,
     pub report: Option<Vec<u8>>,
+}
+
+// Written out, so that its owners drop it by one call.
+impl Drop for Ran {
+    fn drop(self) {
+        let Ran {
+            code: _,
+            line: _,
+            shapes: _,
+            netlist: _,
+            report: _,
+        } = self;
+    }
 }
 
 /// The calls that are to fail, by number: of the depot and of the sink. 0 is no call.

@@ -1,12 +1,16 @@
 //! Layouts, and what `extract` writes of them.
 
-use crate::commands::{EXTRACT, Inputs, NONE, ends, holds, run_of};
+use crate::commands::{EXTRACT, Inputs, NONE, drawing, ends, holds, run_of};
 use crate::drawn::Item::{Label, Outline, Placed, Rect};
 use crate::drawn::{Cell, library};
 use crate::layouts::{
     DIODES, INVERTER, INVERTER_RULES, MOS, ONE_GROUP, R, R_NETLIST, RESISTORS, T, T_NETLIST,
 };
+use std::alloc::{AllocError, Global};
+use std::process::Abort;
+use std::sync::Wait;
 use std::test::Fail;
+use std::thread::Threads;
 
 /// A layout, its rules, how `extract` ends, and the two files that are to be written.
 struct Case {
@@ -28,7 +32,8 @@ const ONE_BAD: &str = "extracted cells 1 circuits 1 bad 1\n";
 /// A circuit without devices has no pins.
 const NOTHING: &str = "* lvs netlist\n.SUBCKT A\n.ENDS A\n.END\n";
 
-const CASES: [Case; 19] = [
+/// Nets and gates of one cell and of several.
+static CELLS: [Case; 6] = [
     // The wire of the parent goes on in the child: one net. A cell without a device has no circuit.
     Case {
         name: "net_through_child",
@@ -145,6 +150,10 @@ M1 \$3 \$1 \$2 VSS NMOS L=0.01U W=0.02U
 .END
 ",
     },
+];
+
+/// Texts, and the names that they give.
+static TEXTS: [Case; 6] = [
     Case {
         name: "equal_labels: two nets",
         layout: &[Cell(
@@ -296,6 +305,10 @@ X2 \$2 \$3 \$4 VSS T\$\$2
 .END
 ",
     },
+];
+
+/// Cells of several devices, and without any.
+static DEVICES: [Case; 7] = [
     Case {
         name: "nothing drawn",
         layout: &[Cell("A", &[])],
@@ -464,23 +477,40 @@ D2 PAD VSS DIODE A=0.0004P P=0.08U
     },
 ];
 
-#[test]
-fn extracted_layouts(rt: HostRuntime) -> Result<(), Fail> {
-    let alloc = rt.alloc();
-    for case in &CASES {
+// Each layout gives the netlist and the layers.
+fn all_give<R: Abort + Threads + Wait + Sync>(
+    rt: &R,
+    alloc: Global,
+    cases: &[Case],
+) -> Result<(), AllocError> {
+    for case in cases {
         let layout = library(alloc, case.layout)?;
-        let inputs = Inputs {
-            layout: &layout,
-            rules: case.rules,
-            schematic: "",
-        };
-        let ran = run_of(&rt, alloc, inputs, &EXTRACT, NONE)?;
-        ends(&rt, &ran, case.code, case.line, case.name);
-        holds(&rt, &ran.netlist, case.netlist, case.name);
+        let inputs = drawing(&layout, case.rules);
+        let ran = run_of(rt, alloc, inputs, &EXTRACT, NONE)?;
+        ends(rt, &ran, case.code, case.line, case.name);
+        holds(rt, &ran.netlist, case.netlist, case.name);
         let wanted = library(alloc, case.shapes)?;
         assert!(rt; ran.shapes == Some(wanted), "{}", case.name);
         assert_eq!(rt; ran.report, None, "{}", case.name);
     }
+    Ok(())
+}
+
+#[test]
+fn extracted_cells(rt: HostRuntime) -> Result<(), Fail> {
+    all_give(&rt, rt.alloc(), &CELLS)?;
+    Ok(())
+}
+
+#[test]
+fn extracted_texts(rt: HostRuntime) -> Result<(), Fail> {
+    all_give(&rt, rt.alloc(), &TEXTS)?;
+    Ok(())
+}
+
+#[test]
+fn extracted_devices(rt: HostRuntime) -> Result<(), Fail> {
+    all_give(&rt, rt.alloc(), &DEVICES)?;
     Ok(())
 }
 

@@ -43,7 +43,8 @@ d.output(11, 0)
 n.output(12, 0)
 ";
 
-static CASES: [Case; 11] = [
+/// Cells that are placed, turned and cut.
+static PLACED: [Case; 6] = [
     // Mirrored first, then turned, then stepped: columns along x, rows along y.
     Case {
         name: "mirrored array",
@@ -173,6 +174,10 @@ static CASES: [Case; 11] = [
             ),
         ],
     },
+];
+
+/// Arrays, names over names, sized layers and empty ones.
+static LAYERS: [Case; 5] = [
     // Squares of 10 by 10, 6 apart. K keeps what neither neighbour lies over: its middle, which the
     // quarter turn of the mirrored cell puts upright.
     Case {
@@ -292,8 +297,16 @@ fn comes_out<R: Abort + Threads + Wait + Sync>(
 }
 
 #[test]
-fn written_hierarchies(rt: HostRuntime) -> Result<(), Fail> {
-    for case in &CASES {
+fn written_cells(rt: HostRuntime) -> Result<(), Fail> {
+    for case in &PLACED {
+        comes_out(&rt, rt.alloc(), case)?;
+    }
+    Ok(())
+}
+
+#[test]
+fn written_layers(rt: HostRuntime) -> Result<(), Fail> {
+    for case in &LAYERS {
         comes_out(&rt, rt.alloc(), case)?;
     }
     Ok(())

@@ -46,138 +46,135 @@ connect(a, b)
 same_circuits('L', 'S')
 ";
 
-/// Lines behind those seven, and their faults.
-static LINES: [(&str, &str); 91] = [
-    ("foo", "30 8"),
-    ("foo %", "30 8"),
-    ("foo => b", "30 8"),
-    ("foo$bar", "30 8"),
-    ("foo \"open", "30 8"),
-    ("foo(a)", "30 8"),
-    ("a.width(10)", "30 8"),
-    ("a . outputs(1, 2)", "30 8"),
-    ("a.Output(1, 2)", "30 8"),
-    ("c = a & b extra", "31 8"),
+/// Faults, and the lines that have each behind those seven.
+static LINES: [(&str, &str); 5] = [
+    (
+        "30 8",
+        r#"foo
+foo %
+foo => b
+foo$bar
+foo "open
+foo(a)
+a.width(10)
+a . outputs(1, 2)
+a.Output(1, 2)"#,
+    ),
+    (
+        "31 8",
+        "c = a & b extra
+c = %
+c = A & b
+C = a & b
+1c = a & b
+Foo
+% foo
+input = input(1, 0)
+deep = polygon_layer
+mos4 = a & b
+input
+deep deep
+schematic(a)
+schematic('')
+c = input(1, 65536)
+c = input(1, 00000000)
+c = input(1, -1)
+c = input(0x1, 1)
+c = polygon_layer()
+c = a + b
+c = a.sized(0)
+c = a.sized(10001)
+c = a.sized(-10001)
+c = a.sized(000001)
+c = a.sized(x)
+c = a.sized(+5)
+c = a.sized(5, 5)
+c = z.sized(0)
+max_guesses(0)
+max_guesses(1000001)
+netlist.flatten_circuit('A*')
+netlist.flatten_circuit('A', 'B')
+schematic.flatten_circuit(a)
+schematic.flatten_circuit('[')
+deep.flatten_circuit('A')
+flatten_unmatched x
+flatten_unmatched = a & b
+same_pins x
+same_pins = a & b
+combine_devices()
+combine_devices = a & b
+connect(a b)
+connect_global(a, \"x')
+connect_global(a, 'h\u{e9}')
+connect_global(a, 'a\tb')
+connect_global(a, '# no comment'
+extract_devices(mos4('P'), { 'SD' => a, 'G' => b })
+extract_devices(mos4('P'), { 'SD' => a, 'G' => b, 'W' => a, })
+extract_devices(mos4('P'), { 'SD' => a, 'G' => b, 'W' => a, 'G' => b })
+extract_devices(mos4('P'), { 'SD' => a, 'G' => b, 'W' => a, 'T' => b })
+extract_devices(mos4('P'), { 'SD' => a, 'G' => b, 'W' => a, 'tS' => b })
+extract_devices(mos4('P'), { 'SD' = > a, 'G' => b, 'W' => a })
+extract_devices(mos4('P'), { })",
+    ),
+    (
+        "32 8",
+        "c = a & d
+c = z.sized(5)
+c = c & a
+c = a & input
+deep.output(1, 0)
+connect(a, z)
+extract_devices(mos4('n'), { 'SD' => a, 'G' => z, 'W' => a })",
+    ),
+    (
+        "33 8",
+        "a = a & t
+a = b.sized(5)
+t.output(10, 0)
+extract_devices(mos4('n'), { 'SD' => t, 'G' => b, 'W' => a })
+same_circuits('l', 'X')
+same_circuits('X', 's')
+netlist.flatten_circuit('l')
+schematic.flatten_circuit('s')",
+    ),
+    (
+        "34 8",
+        "c = t ^ a
+c = t.sized(5)
+t.output(10, 1)
+connect(t, t)
+connect_global(t, 'G')
+extract_devices(mos4('P'), { 'SD' => a, 'G' => b, 'W' => a, 'tB' => t })",
+    ),
+];
+
+/// A line that ends in a space, and several lines, behind those seven, and their faults.
+static BLOCKS: [(&str, &str); 8] = [
     ("c = ", "31 8"),
-    ("c = %", "31 8"),
-    ("c = A & b", "31 8"),
-    ("C = a & b", "31 8"),
-    ("1c = a & b", "31 8"),
-    ("Foo", "31 8"),
-    ("% foo", "31 8"),
-    ("input = input(1, 0)", "31 8"),
-    ("deep = polygon_layer", "31 8"),
-    ("mos4 = a & b", "31 8"),
-    ("input", "31 8"),
-    ("deep deep", "31 8"),
-    ("schematic(a)", "31 8"),
-    ("schematic('')", "31 8"),
-    ("c = input(1, 65536)", "31 8"),
-    ("c = input(1, 00000000)", "31 8"),
-    ("c = input(1, -1)", "31 8"),
-    ("c = input(0x1, 1)", "31 8"),
-    ("c = polygon_layer()", "31 8"),
-    ("c = a + b", "31 8"),
-    ("c = a.sized(0)", "31 8"),
-    ("c = a.sized(10001)", "31 8"),
-    ("c = a.sized(-10001)", "31 8"),
-    ("c = a.sized(000001)", "31 8"),
-    ("c = a.sized(x)", "31 8"),
-    ("c = a.sized(+5)", "31 8"),
-    ("c = a.sized(5, 5)", "31 8"),
-    ("c = z.sized(0)", "31 8"),
     ("c = a.sized(10000)\nd = c.sized(1)", "31 9"),
     ("c = a.sized(-10000)\nd = c.sized(-1)", "31 9"),
     ("c = a.sized(10000)\na = c.sized(1)", "31 9"),
-    ("max_guesses(0)", "31 8"),
-    ("max_guesses(1000001)", "31 8"),
-    ("netlist.flatten_circuit('A*')", "31 8"),
-    ("netlist.flatten_circuit('A', 'B')", "31 8"),
-    ("schematic.flatten_circuit(a)", "31 8"),
-    ("schematic.flatten_circuit('[')", "31 8"),
-    ("deep.flatten_circuit('A')", "31 8"),
-    ("flatten_unmatched x", "31 8"),
-    ("flatten_unmatched = a & b", "31 8"),
-    ("same_pins x", "31 8"),
-    ("same_pins = a & b", "31 8"),
-    ("combine_devices()", "31 8"),
-    ("combine_devices = a & b", "31 8"),
-    ("connect(a b)", "31 8"),
-    ("connect_global(a, \"x')", "31 8"),
-    ("connect_global(a, 'h\u{e9}')", "31 8"),
-    ("connect_global(a, 'a\tb')", "31 8"),
-    ("connect_global(a, '# no comment'", "31 8"),
-    (
-        "extract_devices(mos4('P'), { 'SD' => a, 'G' => b })",
-        "31 8",
-    ),
-    (
-        "extract_devices(mos4('P'), { 'SD' => a, 'G' => b, 'W' => a, })",
-        "31 8",
-    ),
-    (
-        "extract_devices(mos4('P'), { 'SD' => a, 'G' => b, 'W' => a, 'G' => b })",
-        "31 8",
-    ),
-    (
-        "extract_devices(mos4('P'), { 'SD' => a, 'G' => b, 'W' => a, 'T' => b })",
-        "31 8",
-    ),
-    (
-        "extract_devices(mos4('P'), { 'SD' => a, 'G' => b, 'W' => a, 'tS' => b })",
-        "31 8",
-    ),
-    (
-        "extract_devices(mos4('P'), { 'SD' = > a, 'G' => b, 'W' => a })",
-        "31 8",
-    ),
-    ("extract_devices(mos4('P'), { })", "31 8"),
-    ("c = a & d", "32 8"),
-    ("c = z.sized(5)", "32 8"),
-    ("c = c & a", "32 8"),
-    ("c = a & input", "32 8"),
-    ("deep.output(1, 0)", "32 8"),
-    ("connect(a, z)", "32 8"),
-    (
-        "extract_devices(mos4('n'), { 'SD' => a, 'G' => z, 'W' => a })",
-        "32 8",
-    ),
-    ("a = a & t", "33 8"),
-    ("a = b.sized(5)", "33 8"),
-    ("t.output(10, 0)", "33 8"),
-    (
-        "extract_devices(mos4('n'), { 'SD' => t, 'G' => b, 'W' => a })",
-        "33 8",
-    ),
-    ("same_circuits('l', 'X')", "33 8"),
-    ("same_circuits('X', 's')", "33 8"),
-    ("netlist.flatten_circuit('l')", "33 8"),
-    ("schematic.flatten_circuit('s')", "33 8"),
     (
         "netlist.flatten_circuit('q')\nsame_circuits('Q', 'X')",
         "33 9",
     ),
     ("flatten_unmatched\nflatten_unmatched", "33 9"),
     ("same_pins\nsame_pins", "33 9"),
-    ("c = t ^ a", "34 8"),
-    ("c = t.sized(5)", "34 8"),
-    ("t.output(10, 1)", "34 8"),
-    ("connect(t, t)", "34 8"),
-    ("connect_global(t, 'G')", "34 8"),
-    (
-        "extract_devices(mos4('P'), { 'SD' => a, 'G' => b, 'W' => a, 'tB' => t })",
-        "34 8",
-    ),
     (
         "c = polygon_layer\nextract_devices(mos4('P'), { 'SD' => a, 'G' => c, 'W' => a })",
         "34 9",
     ),
 ];
 
-// A line behind seven others: its fault, or none.
+// A line behind seven others: its fault.
 #[test]
 fn refused_lines(rt: HostRuntime) -> Result<(), Fail> {
-    all_answer(&rt, rt.alloc(), BEFORE, &LINES)?;
+    for (fault, lines) in &LINES {
+        for line in lines.split('\n') {
+            all_answer(&rt, rt.alloc(), BEFORE, &[(line, *fault)])?;
+        }
+    }
+    all_answer(&rt, rt.alloc(), BEFORE, &BLOCKS)?;
     Ok(())
 }
 

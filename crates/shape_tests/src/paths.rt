@@ -1,6 +1,6 @@
 //! Paths.
 
-use crate::common::path_set;
+use crate::near::path_set;
 use geo_base::Rect;
 use std::alloc::Global;
 use std::test::Fail;

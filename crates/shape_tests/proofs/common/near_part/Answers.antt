@@ -5,7 +5,7 @@ use Rattle.geo_base.specs.Rects.{has}
 use Rattle.geo_base.specs.declared.shapes.Rect.{Rect}
 use Rattle.rect_sets.specs.Rects.{covers}
 use Rattle.rect_sets.proofs.Moving.{near_within}
-use Rattle.gate_tests.proofs.common.near_part.Goals as goal
+use Rattle.shape_tests.proofs.common.near_part.Goals as goal
 
 pub returns : goal.returns
 returns c =

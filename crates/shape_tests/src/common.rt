@@ -6,7 +6,7 @@ ghost use Rattle.geo_base.specs.Rects.{IsRect};
 ghost use Rattle.rect_sets.specs.Near.{IsNearSet};
 
 use geo_base::Rect;
-use rect_sets::RectSet;
+use rect_sets::{Edge, RectSet, Rule, sweep};
 use std::alloc::{AllocError, Global};
 
 /// Whether the rectangle has a square.
@@ -48,4 +48,27 @@ pub fn near_part(alloc: Global, set: &RectSet) -> Result<RectSet, AllocError>
     };
     let part = set.window(alloc, near)?;
     Ok(part)
+}
+
+/// A rectangle as the sweep of its two upright edges.
+pub fn swept(alloc: Global, r: Rect) -> Result<RectSet, AllocError>
+    requires { IsRect r }
+{
+    let mut edges = Vec::new(alloc);
+    edges.push(Edge {
+        x: r.x2,
+        y1: r.y1,
+        y2: r.y2,
+        first: -1,
+        second: 0,
+    })?;
+    edges.push(Edge {
+        x: r.x1,
+        y1: r.y1,
+        y2: r.y2,
+        first: 1,
+        second: 0,
+    })?;
+    let set = sweep(alloc, edges, Rule::First)?;
+    Ok(set)
 }
