@@ -100,7 +100,7 @@ line_as line v a b c circuits pairs bad e f g h = rw (sym e, sym f, sym g) h
 -- ---- by what was found
 
 module _ (l : Layout) (r : Rules) (schematic : Netlist) (f : Found) (found : HasFound l r f) where
-  netlist_found : IsNetlistFound l r f.cells.gated.layers f.cells.gated.nets f.cells.gated.gates f.cells.pins (plain_netlist f.netlist) f.top f.bad.items
+  netlist_found : IsNetlistFound l r f.cells.tables.gated.layers f.cells.tables.gated.nets f.cells.tables.gated.gates f.cells.tables.pins (plain_netlist f.netlist) f.top f.bad.items
   netlist_found = record { of_cells = found.of_cells; sound = found.sound; told = found.told }
 
   pub not_made : (e : End) → NotCompared r (plain_netlist f.netlist) schematic e → NotMade l r schematic e
@@ -124,9 +124,9 @@ module _ (l : Layout) (r : Rules) (schematic : Netlist) (f : Found) (found : Has
         let m = subst (λ (n : Netlist). Made (compared_of r nl) n) both.schematic_is (subst (λ (n : Netlist). Made n (plain_netlist b.schematic)) both.layout_is made) in
         let d = m.drawn in
         let s = d.source in
-        let by_layers = subst (λ (xs : List (Option CellLayers)). IsNetlistFound l r xs f.cells.gated.nets f.cells.gated.gates f.cells.pins nl f.top f.bad.items) (sym d.layers) netlist_found in
-        let by_nets = subst (λ (xs : List (Option CellNets)). IsNetlistFound l r s.layers.now xs f.cells.gated.gates f.cells.pins nl f.top f.bad.items) (sym d.nets) by_layers in
-        let by_gates = subst (λ (xs : List (Option CellGates)). IsNetlistFound l r s.layers.now s.nets.now xs f.cells.pins nl f.top f.bad.items) (sym d.gates) by_nets in
+        let by_layers = subst (λ (xs : List (Option CellLayers)). IsNetlistFound l r xs f.cells.tables.gated.nets f.cells.tables.gated.gates f.cells.tables.pins nl f.top f.bad.items) (sym d.layers) netlist_found in
+        let by_nets = subst (λ (xs : List (Option CellNets)). IsNetlistFound l r s.layers.now xs f.cells.tables.gated.gates f.cells.tables.pins nl f.top f.bad.items) (sym d.nets) by_layers in
+        let by_gates = subst (λ (xs : List (Option CellGates)). IsNetlistFound l r s.layers.now s.nets.now xs f.cells.tables.pins nl f.top f.bad.items) (sym d.gates) by_nets in
         record {
           source = s;
           cells = d.cells;
@@ -155,14 +155,14 @@ module _ (l : Layout) (r : Rules) (schematic : Netlist) (f : Found) (found : Has
       pub sketched : IsSketchOf l r s cells (names_of (plain_netlist f.netlist)) one sketch
       pub by : HasFarBy one (shown_left one t.compared) sketch.drawings.items (areas_of sketch.regions.regions.items)
 
-    pub far_aligned : (b : Both) → AreCompared r (plain_netlist f.netlist) schematic b → AreCellsOf l r s cells → s.layers.now ≡ f.cells.gated.layers → s.nets.now ≡ f.cells.gated.nets → s.gates.now ≡ f.cells.gated.gates
-        → s.pins.now ≡ f.cells.pins → FarMade (plain_netlist b.layout) (plain_netlist b.schematic) → HasFarAligned l r schematic
+    pub far_aligned : (b : Both) → AreCompared r (plain_netlist f.netlist) schematic b → AreCellsOf l r s cells → s.layers.now ≡ f.cells.tables.gated.layers → s.nets.now ≡ f.cells.tables.gated.nets → s.gates.now ≡ f.cells.tables.gated.gates
+        → s.pins.now ≡ f.cells.tables.pins → FarMade (plain_netlist b.layout) (plain_netlist b.schematic) → HasFarAligned l r schematic
     far_aligned b both are layers nets gates pins made =
         let nl = plain_netlist f.netlist in
         let m = subst (λ (n : Netlist). FarMade (compared_of r nl) n) both.schematic_is (subst (λ (n : Netlist). FarMade n (plain_netlist b.schematic)) both.layout_is made) in
-        let by_layers = subst (λ (xs : List (Option CellLayers)). IsNetlistFound l r xs f.cells.gated.nets f.cells.gated.gates f.cells.pins nl f.top f.bad.items) (sym layers) netlist_found in
-        let by_nets = subst (λ (xs : List (Option CellNets)). IsNetlistFound l r s.layers.now xs f.cells.gated.gates f.cells.pins nl f.top f.bad.items) (sym nets) by_layers in
-        let by_gates = subst (λ (xs : List (Option CellGates)). IsNetlistFound l r s.layers.now s.nets.now xs f.cells.pins nl f.top f.bad.items) (sym gates) by_nets in
+        let by_layers = subst (λ (xs : List (Option CellLayers)). IsNetlistFound l r xs f.cells.tables.gated.nets f.cells.tables.gated.gates f.cells.tables.pins nl f.top f.bad.items) (sym layers) netlist_found in
+        let by_nets = subst (λ (xs : List (Option CellNets)). IsNetlistFound l r s.layers.now xs f.cells.tables.gated.gates f.cells.tables.pins nl f.top f.bad.items) (sym nets) by_layers in
+        let by_gates = subst (λ (xs : List (Option CellGates)). IsNetlistFound l r s.layers.now s.nets.now xs f.cells.tables.pins nl f.top f.bad.items) (sym gates) by_nets in
         record {
           source = s;
           cells = cells;

@@ -46,15 +46,15 @@ some_of_and P None h = absurd h
 some_of_and P (Some x) h = refl
 
 -- the tables have an entry for each cell that the top reaches
-pub all_there : (l : Layout) (r : Rules) (c : Cells) (s : Source) → HasCells l r c → s.design.now ≡ l.design → s.nets.now ≡ c.gated.nets → s.gates.now ≡ c.gated.gates → s.pins.now ≡ c.pins → s.circuits.now ≡ c.circuits → AreAllThere s
+pub all_there : (l : Layout) (r : Rules) (c : Cells) (s : Source) → HasCells l r c → s.design.now ≡ l.design → s.nets.now ≡ c.tables.gated.nets → s.gates.now ≡ c.tables.gated.gates → s.pins.now ≡ c.tables.pins → s.circuits.now ≡ c.circuits → AreAllThere s
 all_there l r c s h design nets gates pins circuits cell reached =
     let here : IsReached (plain l.design) cell = subst (λ (d : Linked). IsReached (plain d) cell) design reached in
     let t = h.tables in
     let d = plain l.design in
     record {
-      nets = subst (λ (x : List (Option CellNets)). IsSome (entry x cell)) (sym nets) (some_of_and (AreCellNets d r cell) (entry c.gated.nets cell) (t.are_nets cell here));
-      gates = subst (λ (x : List (Option CellGates)). IsSome (entry x cell)) (sym gates) (some_of_and (AreCellGates d r cell) (entry c.gated.gates cell) (t.are_gates cell here));
-      pins = subst (λ (x : List (Option CellPins)). IsSome (entry x cell)) (sym pins) (some_of_and (AreCellPins d r cell) (entry c.pins cell) (t.are_pins cell here));
+      nets = subst (λ (x : List (Option CellNets)). IsSome (entry x cell)) (sym nets) (some_of_and (AreCellNets d r cell) (entry c.tables.gated.nets cell) (t.are_nets cell here));
+      gates = subst (λ (x : List (Option CellGates)). IsSome (entry x cell)) (sym gates) (some_of_and (AreCellGates d r cell) (entry c.tables.gated.gates cell) (t.are_gates cell here));
+      pins = subst (λ (x : List (Option CellPins)). IsSome (entry x cell)) (sym pins) (some_of_and (AreCellPins d r cell) (entry c.tables.pins cell) (t.are_pins cell here));
       circuits = subst (λ (x : List (Option CellCircuit)). IsSome (entry x cell)) (sym circuits) (some_of_and (IsCellCircuit l.header.unit_pm d r cell) (entry c.circuits cell) (t.are_circuits cell here));
     }
 
@@ -69,7 +69,7 @@ module _ (l : Layout) (rules : RuleSet) (c : Cells) (names : List (List ℕ)) (w
   called_here h = subst (λ (d : Linked). (cell b : ℕ) → IsReached (plain d) cell → called_by lists.called.items cell b ≡ called_in s.circuits.now (pins_of s.pins.now) cell b) design h.called
 
   pub sketched : (v : Sketched) → v.cells.items ≡ c.cells.items → v.names.items ≡ names → AreInside (length l.design.cells) c.cells.items → HasCells l (rules_seen rules) c
-      → s.layers.now ≡ c.gated.layers → s.nets.now ≡ c.gated.nets → s.gates.now ≡ c.gated.gates → s.pins.now ≡ c.pins → s.circuits.now ≡ c.circuits → AreListsOf s lists
+      → s.layers.now ≡ c.tables.gated.layers → s.nets.now ≡ c.tables.gated.nets → s.gates.now ≡ c.tables.gated.gates → s.pins.now ≡ c.tables.pins → s.circuits.now ≡ c.circuits → AreListsOf s lists
       → AreRightNets (plain s.design.now) (wiring_of (rules_seen s.rules.now)) (listed_tables lists) → AreDrawn s (listed_tables lists) (called_by lists.called.items) c.cells.items names written.circuits v.sketch
       → AreAllSmall v.sketch.drawings.items → AreSmallRegions (areas_of v.sketch.regions.regions.items) → AreSketched l rules c names written v
   sketched v cells named inside h layers nets gates pins circuits are right drawn small small_regions = record {
@@ -89,7 +89,7 @@ module _ (l : Layout) (rules : RuleSet) (c : Cells) (names : List (List ℕ)) (w
   }
 
   -- something of it that is too far is of the layout
-  pub far_circuit : HasCells l (rules_seen rules) c → s.layers.now ≡ c.gated.layers → s.nets.now ≡ c.gated.nets → s.gates.now ≡ c.gated.gates → s.pins.now ≡ c.pins → s.circuits.now ≡ c.circuits → AreListsOf s lists
+  pub far_circuit : HasCells l (rules_seen rules) c → s.layers.now ≡ c.tables.gated.layers → s.nets.now ≡ c.tables.gated.nets → s.gates.now ≡ c.tables.gated.gates → s.pins.now ≡ c.tables.pins → s.circuits.now ≡ c.circuits → AreListsOf s lists
       → AreRightNets (plain s.design.now) (wiring_of (rules_seen s.rules.now)) (listed_tables lists) → HasFarCell s (listed_tables lists) (called_by lists.called.items) → HasFarCircuit l (rules_seen rules)
   far_circuit h layers nets gates pins circuits are right far = record {
     source = s;

@@ -22,19 +22,20 @@ use Rattle.view_run.specs.declared.merging.Both.{Both}
 
 -- the tables of a layout's cells, and the cells with circuits
 pub record HasCells (l : Layout) (r : Rules) (c : Cells) : Type 0 where
-  pub tables : AreAllTables l.header.unit_pm (plain l.design) r c.gated.layers c.gated.nets
-      c.gated.gates c.pins c.circuits
-  pub cells : AreCircuitCells (plain l.design) (height_at l.design) (gates_of c.gated.gates)
-      c.cells.items
+  pub tables : AreAllTables l.header.unit_pm (plain l.design) r c.tables.gated.layers
+      c.tables.gated.nets c.tables.gated.gates c.tables.pins c.circuits
+  pub cells : AreCircuitCells (plain l.design) (height_at l.design)
+      (gates_of c.tables.gated.gates) c.cells.items
 
 -- its netlist and its bad gates too
 pub record HasFound (l : Layout) (r : Rules) (f : Found) : Type 0 where
   pub cells : HasCells l r f.cells
-  pub of_cells : IsNetlistOfCells l.header.unit_pm l.design r f.cells.gated.layers
-      f.cells.gated.nets f.cells.gated.gates f.cells.pins (plain_netlist f.netlist) f.top
+  pub of_cells : IsNetlistOfCells l.header.unit_pm l.design r f.cells.tables.gated.layers
+      f.cells.tables.gated.nets f.cells.tables.gated.gates f.cells.tables.pins
+      (plain_netlist f.netlist) f.top
   pub sound : IsSoundNetlist (plain_netlist f.netlist)
   pub normal : IsNormalNetlist (plain_netlist f.netlist)
-  pub told : f.bad.items ≡ told_gates r f.cells.gated.gates l.design.order
+  pub told : f.bad.items ≡ told_gates r f.cells.tables.gated.gates l.design.order
 
 -- what the rules have compared of two netlists
 pub record AreCompared (r : Rules) (layout schematic : Netlist) (b : Both) : Type 0 where

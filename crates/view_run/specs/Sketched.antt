@@ -50,10 +50,10 @@ pub record AreSketched (l : Layout) (rules : RuleSet) (c : Cells) (names : List 
   pub source : Source
   pub are : AreCellsOf l (rules_seen rules) source c.cells.items
   pub rules_are : source.rules.now ≡ rules
-  pub layers : source.layers.now ≡ c.gated.layers
-  pub nets : source.nets.now ≡ c.gated.nets
-  pub gates : source.gates.now ≡ c.gated.gates
-  pub pins : source.pins.now ≡ c.pins
+  pub layers : source.layers.now ≡ c.tables.gated.layers
+  pub nets : source.nets.now ≡ c.tables.gated.nets
+  pub gates : source.gates.now ≡ c.tables.gated.gates
+  pub pins : source.pins.now ≡ c.tables.pins
   pub sketch : IsSketchOf l (rules_seen rules) source c.cells.items names written v.sketch
 
 -- the picture of aligned circuits, by where their parts are from in the netlist that was aligned,

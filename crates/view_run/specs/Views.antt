@@ -91,10 +91,10 @@ pub record ArePictured (l : Layout) (r : Rules) (c : Cells) (names : List (List 
   pub source : Source
   pub cells : List ℕ
   pub are : AreCellsOf l r source cells
-  pub layers : source.layers.now ≡ c.gated.layers
-  pub nets : source.nets.now ≡ c.gated.nets
-  pub gates : source.gates.now ≡ c.gated.gates
-  pub pins : source.pins.now ≡ c.pins
+  pub layers : source.layers.now ≡ c.tables.gated.layers
+  pub nets : source.nets.now ≡ c.tables.gated.nets
+  pub gates : source.gates.now ≡ c.tables.gated.gates
+  pub pins : source.pins.now ≡ c.tables.pins
   pub picture : IsPictureOf l r source cells names written shown p
 
 -- calls go to circuits of the list, and none calls itself, at once or through others
@@ -146,8 +146,8 @@ pub record IsTooWide (l : Layout) (r : Rules) (schematic : Netlist) (a : Answer)
   pub netlist : Netlist
   pub top : ℕ
   pub bad : List BadGate
-  pub found : IsNetlistFound l r cells.gated.layers cells.gated.nets cells.gated.gates cells.pins
-      netlist top bad
+  pub found : IsNetlistFound l r cells.tables.gated.layers cells.tables.gated.nets
+      cells.tables.gated.gates cells.tables.pins netlist top bad
   pub refused : merge_refusal (wide_name r netlist) (wide_name r schematic) ≡ Some a
 
 -- each circuit has one of the other side, and an answer
@@ -181,6 +181,20 @@ abbrev pub IsPageAsked : Bool → ℕ → Picture → List Circuit → List Circ
 IsPageAsked false unit p lefts rights rows page = page ≡ None
 IsPageAsked true unit p lefts rights rows page =
     (text : List ℕ) × (page ≡ Some text) × IsPageOf unit p lefts rights rows text
+
+-- of what was compared, over this picture, the text is the database, and the page is the page if it
+-- is asked for
+pub record AreWritten (l : Layout) (r : Rules) (p : Picture) (one two : Netlist)
+    (compared : Option Compared) (top : ℕ) (bad : List BadGate) (paged : Bool)
+    (text : List ℕ) (page : Option (List ℕ)) : Type 0 where
+  pub rows : List (List Row)
+  pub proposed : AreRowsOf r compared rows
+  pub database : IsDatabase (cell_name (cell_at l.design l.design.top))
+      (l.header.unit_pm * 1000) r p
+      (shown_logs (gate_log l.design (name_of (slice_get one.circuits top)) bad) compared)
+      (shown_lefts one compared) (shown_rights two compared) rows (all_answers compared) text
+  pub page_is : IsPageAsked paged l.header.unit_pm p (shown_lefts one compared)
+      (shown_rights two compared) rows page
 
 -- the text is the database of the layout and the schematic by the rules, the page is the page of
 -- them if it is asked for, v is what they come to, and the line says so

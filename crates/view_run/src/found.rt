@@ -17,11 +17,23 @@ use std::sync::Wait;
 use std::thread::Threads;
 use view_drawing::Source;
 
-/// The layers, nets, gates, pins and circuits of a layout's cells, and the cells with circuits.
-#[derive(Drop)]
-pub struct Cells {
+/// The layers, nets, gates and pins of a layout's cells.
+pub struct CellTables {
     pub gated: Gated,
     pub pins: Pins,
+}
+
+// Written out, so that their owners drop them by one call.
+impl Drop for CellTables {
+    fn drop(self) {
+        let CellTables { gated: _, pins: _ } = self;
+    }
+}
+
+/// The tables of a layout's cells, their circuits, and the cells with circuits.
+#[derive(Drop)]
+pub struct Cells {
+    pub tables: CellTables,
     pub circuits: Circuits,
     pub cells: Vec<u32>,
 }
@@ -51,7 +63,11 @@ pub fn find_all<R: Threads + Wait + Sync, G: Gate + Sync>(
     let design = &layout.design;
     let unit_pm = layout.header.unit_pm;
     let found = derive_pins(alloc, design, rules, crew)?;
-    let (gated, pins) = (&found.gated, &found.pins);
+    let tables = CellTables {
+        gated: found.gated,
+        pins: found.pins,
+    };
+    let (gated, pins) = (&tables.gated, &tables.pins);
     let drawn = draw(alloc, design, rules, gated, pins, unit_pm, crew)?;
     let (nets, gates) = (&gated.nets, &gated.gates);
     let circuits = find_circuits(alloc, design, rules, nets, pins, gates, unit_pm, crew)?;
@@ -61,8 +77,7 @@ pub fn find_all<R: Threads + Wait + Sync, G: Gate + Sync>(
         top: drawn.top,
         bad: drawn.bad,
         cells: Cells {
-            gated: found.gated,
-            pins: found.pins,
+            tables,
             circuits,
             cells,
         },
@@ -73,19 +88,20 @@ pub fn find_all<R: Threads + Wait + Sync, G: Gate + Sync>(
 pub fn source_of<'a>(layout: &'a Layout, rules: &'a RuleSet, cells: &'a Cells) -> Source<'a>
     ensures design { result.design.now ≡ layout.now.design }
     ensures rules { result.rules.now ≡ rules.now }
-    ensures layers { result.layers.now ≡ cells.now.gated.layers }
-    ensures nets { result.nets.now ≡ cells.now.gated.nets }
-    ensures gates { result.gates.now ≡ cells.now.gated.gates }
-    ensures pins { result.pins.now ≡ cells.now.pins }
+    ensures layers { result.layers.now ≡ cells.now.tables.gated.layers }
+    ensures nets { result.nets.now ≡ cells.now.tables.gated.nets }
+    ensures gates { result.gates.now ≡ cells.now.tables.gated.gates }
+    ensures pins { result.pins.now ≡ cells.now.tables.pins }
     ensures circuits { result.circuits.now ≡ cells.now.circuits }
 {
+    let tables = &cells.tables;
     Source {
         design: &layout.design,
         rules,
-        layers: &cells.gated.layers,
-        nets: &cells.gated.nets,
-        gates: &cells.gated.gates,
-        pins: &cells.pins,
+        layers: &tables.gated.layers,
+        nets: &tables.gated.nets,
+        gates: &tables.gated.gates,
+        pins: &tables.pins,
         circuits: &cells.circuits,
     }
 }

@@ -1,6 +1,7 @@
 //! What a run has to write.
 
-ghost use Rattle.std.specs.Prelude.{◌≡◌, IfErr, IfOk, length};
+ghost use Rattle.std.specs.Prelude.{◌≡◌, ◌<◌, IfErr, IfOk, length};
+ghost use Rattle.std.specs.List.{All};
 ghost use Rattle.std.specs.Option.{option_map};
 ghost use Rattle.net_align.specs.Compared.{IsAlignable};
 ghost use Rattle.net_model.specs.Rows.{plain_netlist};
@@ -8,14 +9,17 @@ ghost use Rattle.pair_jobs.specs.Verdict.{IsRunVerdict};
 ghost use Rattle.report_file.specs.File.{all_answers, pair_count};
 ghost use Rattle.rule_text.specs.Seen.{rules_seen};
 ghost use Rattle.rule_text.specs.Sound.{IsSound};
+ghost use Rattle.view_file.specs.Layout.{IsSmallPicture};
 ghost use Rattle.view_run.specs.Ends.{stopped};
 ghost use Rattle.view_run.specs.Found.{HasFound};
 ghost use Rattle.view_run.specs.Far.{NotMade};
-ghost use Rattle.view_run.specs.Views.{IsView};
+ghost use Rattle.view_run.specs.Lines.{view_line};
+ghost use Rattle.view_run.specs.Views.{AreAllPaired, AreWritten, CanBeOrdered, IsView};
+ghost use Rattle.view_run.specs.Views.{shown_rights};
 
 use crate::drawing::{circuit_names, draw, joined};
 use crate::found::{Found, find_all};
-use crate::merging::as_compared;
+use crate::merging::{Both, as_compared};
 use crate::status::Stop;
 use crate::stops::view_stop;
 use crate::summary::view_line;
@@ -32,6 +36,7 @@ use rule_text::RuleSet;
 use std::alloc::{AllocError, Global};
 use std::sync::Wait;
 use std::thread::Threads;
+use view_file::Picture;
 
 /// What is made of a layout and a schematic: the database, the page where it is asked for, the line,
 /// and what they come to.
@@ -61,6 +66,56 @@ fn judge(bad: &[BadGate], compared: &Option<Compared>) -> Result<Verdict, AllocE
         Some(found) => judge_run(bad.len(), Some(&found.answers)),
         None => judge_run(bad.len(), None),
     }
+}
+
+/// How many circuits a layout has as it is drawn, the top's number among them, its bad gates, and
+/// whether the page is asked for.
+#[derive(Clone, Copy)]
+struct Told<'a> {
+    circuits: usize,
+    top: u32,
+    bad: &'a [BadGate],
+    paged: bool,
+}
+
+// What there is to write of what was compared.
+fn view_compared(
+    alloc: Global,
+    layout: &Layout,
+    rules: &RuleSet,
+    picture: &Picture,
+    both: &Both,
+    compared: &Option<Compared>,
+    told: Told<'_>,
+) -> Result<View, AllocError>
+    requires paired { AreAllPaired compared.now }
+    requires small { IsSmallPicture picture.now }
+    requires cells { All (λ x. x.cell < length layout.now.design.cells) told.bad.now }
+    requires ordered { CanBeOrdered (shown_rights (plain_netlist both.now.schematic) compared.now) }
+    requires top { told.top < length both.now.layout.circuits.items }
+    ensures verdict { IfOk result (λ o. IsRunVerdict (length told.entry.bad.now)
+        (all_answers compared.now) o.verdict) }
+    ensures written { IfOk result (λ o. AreWritten layout.now (rules_seen rules.now) picture.now
+        (plain_netlist both.now.layout) (plain_netlist both.now.schematic) compared.now told.entry.top
+        told.entry.bad.now told.entry.paged o.text.items (option_map (λ text. text.items) o.page)) }
+    ensures line { IfOk result (λ o. o.line.items ≡ view_line o.verdict told.entry.circuits
+        (pair_count compared.now) (length told.entry.bad.now)) }
+{
+    let verdict = judge(told.bad, compared)?;
+    let rows = propose(alloc, rules, compared)?;
+    let name = circuit_name(&both.layout, told.top as usize);
+    let text = write_database(
+        alloc, layout, rules, picture, both, compared, &rows, name, told.bad,
+    )?;
+    let page = write_page(alloc, layout, picture, both, compared, &rows, told.paged)?;
+    let (pairs, bad) = (pair_count(compared), told.bad.len());
+    let line = view_line(alloc, verdict, told.circuits, pairs, bad)?;
+    Ok(View {
+        text,
+        page,
+        line,
+        verdict,
+    })
 }
 
 // What there is to write, by what was found of the layout.
@@ -102,25 +157,19 @@ fn view_found<R: Threads + Wait + Sync, G: Gate + Sync>(
     };
     let turns = compare_in_turns(alloc, rules, one, top, other, crew)?;
     let compared = &turns.compared;
-    let verdict = judge(&bad, compared)?;
     let shown = shown_circuits(&both, compared);
     let picture = match joined(alloc, layout, rules, drawn, one, shown) {
         Ok(picture) => picture,
         Err(fault) => return Err(view_stop(fault)),
     };
-    let rows = propose(alloc, rules, compared)?;
-    let name = circuit_name(one, top as usize);
-    let text = write_database(
-        alloc, layout, rules, &picture, &both, compared, &rows, name, &bad,
-    )?;
-    let page = write_page(alloc, layout, &picture, &both, compared, &rows, paged)?;
-    let line = view_line(alloc, verdict, circuits, pair_count(compared), bad.len())?;
-    Ok(View {
-        text,
-        page,
-        line,
-        verdict,
-    })
+    let told = Told {
+        circuits,
+        top,
+        bad: &bad,
+        paged,
+    };
+    let made = view_compared(alloc, layout, rules, &picture, &both, compared, told)?;
+    Ok(made)
 }
 
 /// What there is to write of a layout, rules and a schematic; the page only if it is asked for.

@@ -15,10 +15,19 @@ use rule_text::RuleSet;
 use std::alloc::Global;
 
 /// A layout's netlist and a schematic, as the rules have them compared.
-#[derive(Drop)]
 pub struct Both {
     pub layout: Netlist,
     pub schematic: Netlist,
+}
+
+// Written out, so that its owners drop it by one call.
+impl Drop for Both {
+    fn drop(self) {
+        let Both {
+            layout: _,
+            schematic: _,
+        } = self;
+    }
 }
 
 /// What the rules have compared of a layout and a schematic: where they combine devices, each group

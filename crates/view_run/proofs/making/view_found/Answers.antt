@@ -1,4 +1,4 @@
-use Rattle.std.proofs.Common.{◌≡◌, ◌<◌, ◌∙◌, ℕ, Err, List, [], Result, ap, length, subst, sym}
+use Rattle.std.proofs.Common.{◌≡◌, ◌<◌, ◌∙◌, ℕ, Err, List, [], Result, ap, length, refl, subst, sym}
 use Rattle.std.proofs.lemmas.List.{length-map}
 use Rattle.std.proofs.lemmas.Result.{err_from_is_err_and}
 use Rattle.std.specs.List.{All}
@@ -11,11 +11,8 @@ use Rattle.plain_netlist.specs.Netlist.{Netlist}
 use Rattle.plain_netlist.specs.Sound.{IsGood}
 use Rattle.report_file.specs.File.{all_answers, pair_count}
 use Rattle.rule_text.specs.Seen.{rules_seen}
-use Rattle.view_cross.specs.Whole.{AreWhole}
-use Rattle.view_cross.specs.declared.rows.Row.{Row}
 use Rattle.view_file.specs.declared.layout.Picture.{Picture}
 use Rattle.view_shapes.specs.declared.pieces.ShowFault.{ShowFault}
-use Rattle.view_file.specs.Cross.{lists_of}
 use Rattle.spice_text.specs.Needs.{first_seen}
 use Rattle.view_drawing.specs.Devices.{areas_of}
 use Rattle.view_labels.specs.Labels.{numbers_of}
@@ -24,10 +21,10 @@ use Rattle.view_run.specs.Far.{Aligned, HasFarBy, Written}
 use Rattle.view_run.specs.Sketched.{IsSketchOf}
 use Rattle.view_run.specs.declared.drawing.Sketched.{Sketched}
 use Rattle.view_run.proofs.Pictured.{pictured}
-use Rattle.view_run.specs.Views.{ArePictured, IsPageAsked, names_of, shown_lefts, shown_rights}
-use Rattle.view_run.proofs.Assembled.{database_as, far_aligned, is_view, line_as, layout_alignable, layout_ordered, not_drawn, not_made, schematic_alignable, top_of_both, top_there}
+use Rattle.view_run.specs.Views.{ArePictured, AreWritten, names_of}
+use Rattle.view_run.proofs.Assembled.{far_aligned, is_view, line_as, layout_alignable, layout_ordered, not_drawn, not_made, schematic_alignable, top_of_both, top_there}
 use Rattle.view_run.proofs.Ordering.{shown_ordered}
-use Rattle.view_run.proofs.Shown.{all_paired, left_good, whole_lists}
+use Rattle.view_run.proofs.Shown.{all_paired, left_good}
 use Rattle.view_run.proofs.making.view_found.Goals as goal
 
 pub as_compared-requires-clause-layout : goal.as_compared-requires-clause-layout
@@ -76,39 +73,6 @@ joined-requires-clause-shown g c =
     (left_good (plain_netlist both.layout) c.args.found.top (plain_netlist both.schematic) c.in_ok-turns.ensures.same r.max_guesses r.tells_pins
     c.in_ok-turns.turns.compared good c.in_ok-turns.ensures.comparison)
 
-pub propose-requires : goal.propose-requires
-propose-requires g c =
-    let r = rules_seen c.args.rules.now in
-    record {
-      paired = all_paired (plain_netlist c.in_ok-both.both.layout) c.args.found.top (plain_netlist c.in_ok-both.both.schematic)
-          c.in_ok-turns.ensures.same r.max_guesses r.tells_pins c.in_ok-turns.turns.compared c.in_ok-turns.ensures.comparison;
-    }
-
-pub write_database-requires-clause-whole : goal.write_database-requires-clause-whole
-write_database-requires-clause-whole g c =
-    let both = c.in_ok-both.both in
-    let o = c.in_ok-turns.turns.compared in
-    let whole = whole_lists (plain_netlist both.layout) (plain_netlist both.schematic) o _ c.in_ok-rows.ensures.whole in
-    subst (λ (ls : List (List Row)). AreWhole (shown_lefts (plain_netlist both.layout) o) (shown_rights (plain_netlist both.schematic) o) ls)
-    (sym (ap lists_of c.deref-2.ensures.value)) whole
-
-pub write_database-requires-clause-ordered : goal.write_database-requires-clause-ordered
-write_database-requires-clause-ordered g c =
-    let r = rules_seen c.args.rules.now in
-    shown_ordered (plain_netlist c.in_ok-both.both.layout) c.args.found.top (plain_netlist c.in_ok-both.both.schematic)
-    c.in_ok-turns.ensures.same r.max_guesses r.tells_pins c.in_ok-turns.turns.compared
-    (schematic_alignable c.in_ok-both.ensures.both c.combined_alignable.ensures.alignable c.requires.schematic).sound c.in_ok-turns.ensures.comparison
-
-pub write_database-requires-clause-cells : goal.write_database-requires-clause-cells
-write_database-requires-clause-cells g c =
-    let r = rules_seen c.args.rules.now in
-    subst (λ (bs : List BadGate). All (λ x. x.cell < length c.args.layout.now.design.cells) bs) (sym c.deref-3.ensures.value)
-    (told_inside c.args.layout.now.design r c.args.found.cells.gated.gates c.args.found.bad.items c.sound.ensures c.requires.found.told)
-
-pub circuit_name-name-requires : goal.circuit_name-name-requires
-circuit_name-name-requires g c =
-    top_of_both c.in_ok-both.ensures.both c.args.found.top (top_there _ _ _ _ _ _ _ _ _ c.requires.found.of_cells)
-
 pub returns-in_err-both-clause-refused : goal.returns-in_err-both-clause-refused
 returns-in_err-both-clause-refused g c =
     let r = rules_seen c.args.rules.now in
@@ -149,35 +113,6 @@ returns-in-Err-joined-clause-refused g c =
     Aligned (far_aligned l r other f c.requires.found c.in_ok-turns.turns are.source f.cells.cells.items v.sketch c.in_ok-both.both c.in_ok-both.ensures.both are.are are.layers are.nets are.gates are.pins
     (record { taken = c.in_ok-turns.ensures; sketched = named; by = by })))
 
-pub returns-clause-made : goal.returns-clause-made
-returns-clause-made g c =
-    let l = c.args.layout.now in
-    let r = rules_seen c.args.rules.now in
-    let f = c.args.found in
-    let nl = plain_netlist f.netlist in
-    let other = plain_netlist c.args.schematic in
-    let both = c.in_ok-both.both in
-    let o = c.in_ok-turns.turns.compared in
-    let p = c.in-Ok-joined.picture in
-    let one = plain_netlist both.layout in
-    let two = plain_netlist both.schematic in
-    let shown = c.shown_circuits-shown in
-    let rows = lists_of c.in_ok-rows.rows.items in
-    let text = c.in_ok-text.text.items in
-    let page = option_map (λ text. text.items) c.in_ok-page.page in
-    let v = c.in_ok-verdict.verdict in
-    let are = rw c.in-Ok.is at c.draw.ensures.sketched in
-    let by = rw c.in-Ok-joined.is at c.joined.ensures.picture in
-    let whole = pictured l c.args.rules.now f.cells c.in_ok-names.names.items one (plain_netlist shown.result.now) c.in-Ok.drawn p are by in
-    let named = subst (λ (ns : List (List ℕ)). ArePictured l r f.cells ns one (plain_netlist shown.result.now) p) c.in_ok-names.ensures whole in
-    let drawn = subst (λ (n : Netlist). ArePictured l r f.cells (names_of nl) one n p) shown.ensures named in
-    let database = database_as l r p one two o c.circuit_name-name.result.now _ c.deref-3.result.now f.bad.items (lists_of c.deref-2.result.now) rows text c.circuit_name-name.ensures c.deref-3.ensures.value (ap lists_of c.deref-2.ensures.value) c.in_ok-text.ensures in
-    let page_is = subst (λ (ls : List (List Row)). IsPageAsked c.args.paged l.header.unit_pm p (shown_lefts one o) (shown_rights two o) ls page) (ap lists_of c.deref-4.ensures.value) c.in_ok-page.ensures in
-    let verdict = subst (λ (bs : List BadGate). IsRunVerdict (length bs) (all_answers o) v) c.deref.ensures.value c.in_ok-verdict.ensures in
-    let circuits : c.len-circuits.result ≡ length nl.circuits = c.len-circuits.ensures ∙ (f.netlist.circuits.ok.0 ∙ sym (length-map f.netlist.circuits.items plain_circuit)) in
-    let line_is = line_as c.in_ok-line.line.items v _ _ _ (length nl.circuits) (pair_count o) (length f.bad.items) circuits c.pair_count.ensures (c.len.ensures ∙ f.bad.ok.0) c.in_ok-line.ensures in
-    is_view l r other f c.requires.found c.in_ok-turns.turns p rows c.args.paged text page both v c.in_ok-line.line.items c.in_ok-both.ensures.both (record { taken = c.in_ok-turns.ensures; drawn = drawn; database = database; page_is = page_is }) verdict c.in_ok-rows.ensures.proposed line_is
-
 pub joined-requires-clause-small : goal.joined-requires-clause-small
 joined-requires-clause-small g c =
     let are = rw c.in-Ok.is at c.draw.ensures.sketched in
@@ -189,3 +124,53 @@ joined-requires-clause-listed g c =
     let written = (plain_netlist c.in_ok-both.both.layout).circuits in
     regions_listed are.source are.sketch.nets are.sketch.called c.args.found.cells.cells.items (first_seen [] c.in_ok-names.names.items)
     (numbers_of (first_seen [] c.in_ok-names.names.items) written) written (areas_of c.in-Ok.drawn.sketch.regions.regions.items) c.in-Ok.drawn.sketch.drawings.items are.sketch.drawn.by_cells
+
+pub view_compared-requires-clause-paired : goal.view_compared-requires-clause-paired
+view_compared-requires-clause-paired g c =
+    let r = rules_seen c.args.rules.now in
+    all_paired (plain_netlist c.in_ok-both.both.layout) c.args.found.top (plain_netlist c.in_ok-both.both.schematic)
+    c.in_ok-turns.ensures.same r.max_guesses r.tells_pins c.in_ok-turns.turns.compared c.in_ok-turns.ensures.comparison
+
+pub view_compared-requires-clause-ordered : goal.view_compared-requires-clause-ordered
+view_compared-requires-clause-ordered g c =
+    let r = rules_seen c.args.rules.now in
+    shown_ordered (plain_netlist c.in_ok-both.both.layout) c.args.found.top (plain_netlist c.in_ok-both.both.schematic)
+    c.in_ok-turns.ensures.same r.max_guesses r.tells_pins c.in_ok-turns.turns.compared
+    (schematic_alignable c.in_ok-both.ensures.both c.combined_alignable.ensures.alignable c.requires.schematic).sound c.in_ok-turns.ensures.comparison
+
+pub view_compared-requires-clause-cells : goal.view_compared-requires-clause-cells
+view_compared-requires-clause-cells g c =
+    let r = rules_seen c.args.rules.now in
+    subst (λ (bs : List BadGate). All (λ x. x.cell < length c.args.layout.now.design.cells) bs) (sym c.deref.ensures.value)
+    (told_inside c.args.layout.now.design r c.args.found.cells.tables.gated.gates c.args.found.bad.items c.sound.ensures c.requires.found.told)
+
+pub view_compared-requires-clause-top : goal.view_compared-requires-clause-top
+view_compared-requires-clause-top g c =
+    top_of_both c.in_ok-both.ensures.both c.args.found.top (top_there _ _ _ _ _ _ _ _ _ c.requires.found.of_cells)
+
+pub returns-clause-made : goal.returns-clause-made
+returns-clause-made g c =
+    let l = c.args.layout.now in
+    let r = rules_seen c.args.rules.now in
+    let f = c.args.found in
+    let nl = plain_netlist f.netlist in
+    let both = c.in_ok-both.both in
+    let o = c.in_ok-turns.turns.compared in
+    let p = c.in-Ok-joined.picture in
+    let one = plain_netlist both.layout in
+    let two = plain_netlist both.schematic in
+    let shown = c.shown_circuits-shown in
+    let v = c.in_ok-made.made in
+    let text = v.text.items in
+    let page = option_map (λ text. text.items) v.page in
+    let are = rw c.in-Ok.is at c.draw.ensures.sketched in
+    let by = rw c.in-Ok-joined.is at c.joined.ensures.picture in
+    let whole = pictured l c.args.rules.now f.cells c.in_ok-names.names.items one (plain_netlist shown.result.now) c.in-Ok.drawn p are by in
+    let named = subst (λ (ns : List (List ℕ)). ArePictured l r f.cells ns one (plain_netlist shown.result.now) p) c.in_ok-names.ensures whole in
+    let drawn = subst (λ (n : Netlist). ArePictured l r f.cells (names_of nl) one n p) shown.ensures named in
+    let bad = c.deref.ensures.value in
+    let written = subst (λ (bs : List BadGate). AreWritten l r p one two o f.top bs c.args.paged text page) bad c.in_ok-made.ensures.written in
+    let verdict = subst (λ (bs : List BadGate). IsRunVerdict (length bs) (all_answers o) v.verdict) bad c.in_ok-made.ensures.verdict in
+    let circuits : c.len-circuits.result ≡ length nl.circuits = c.len-circuits.ensures ∙ (f.netlist.circuits.ok.0 ∙ sym (length-map f.netlist.circuits.items plain_circuit)) in
+    let line_is = line_as v.line.items v.verdict _ _ _ (length nl.circuits) (pair_count o) (length f.bad.items) circuits refl (ap length bad) c.in_ok-made.ensures.line in
+    is_view l r (plain_netlist c.args.schematic) f c.requires.found c.in_ok-turns.turns p written.rows c.args.paged text page both v.verdict v.line.items c.in_ok-both.ensures.both (record { taken = c.in_ok-turns.ensures; drawn = drawn; database = written.database; page_is = written.page_is }) verdict written.proposed line_is
