@@ -59,7 +59,8 @@ pub const THREE: &[Cell] = &[
     Cell("TOP", &[Placed("MID", 0, 0)]),
 ];
 
-static CASES: [Case; 17] = [
+/// A transistor against what it is in several schematics, and bad gates.
+static CELLS: [Case; 5] = [
     Case {
         name: "one_transistor_run",
         layout: &[T],
@@ -137,6 +138,10 @@ end
         line: MISMATCH,
         report: T_WIDTH,
     },
+];
+
+/// Fingers, exchanged ends, and pins that no terminal is at.
+static PINS: [Case; 5] = [
     // Two fingers are one transistor only where the rules combine devices.
     Case {
         name: "two fingers",
@@ -206,6 +211,10 @@ device 2 2
 end
 ",
     },
+];
+
+/// Partners of other names, calls, and circuits that differ below.
+static CALLS: [Case; 7] = [
     // The only circuit that no other calls is the top's partner, whatever its name.
     Case {
         name: "a top by another name",
@@ -396,10 +405,12 @@ pub fn compares<R: Abort + Threads + Wait + Sync>(
     Ok(())
 }
 
-#[test]
-fn compared_layouts(rt: HostRuntime) -> Result<(), Fail> {
-    let alloc = rt.alloc();
-    for case in &CASES {
+fn all_compare<R: Abort + Threads + Wait + Sync>(
+    rt: &R,
+    alloc: Global,
+    cases: &[Case],
+) -> Result<(), AllocError> {
+    for case in cases {
         let layout = library(alloc, case.layout)?;
         let inputs = Inputs {
             layout: &layout,
@@ -407,7 +418,7 @@ fn compared_layouts(rt: HostRuntime) -> Result<(), Fail> {
             schematic: case.schematic,
         };
         compares(
-            &rt,
+            rt,
             alloc,
             inputs,
             case.code,
@@ -416,6 +427,24 @@ fn compared_layouts(rt: HostRuntime) -> Result<(), Fail> {
             case.name,
         )?;
     }
+    Ok(())
+}
+
+#[test]
+fn compared_cells(rt: HostRuntime) -> Result<(), Fail> {
+    all_compare(&rt, rt.alloc(), &CELLS)?;
+    Ok(())
+}
+
+#[test]
+fn compared_pins(rt: HostRuntime) -> Result<(), Fail> {
+    all_compare(&rt, rt.alloc(), &PINS)?;
+    Ok(())
+}
+
+#[test]
+fn compared_calls(rt: HostRuntime) -> Result<(), Fail> {
+    all_compare(&rt, rt.alloc(), &CALLS)?;
     Ok(())
 }
 

@@ -209,15 +209,25 @@ pub fn end(out: &mut Vec<u8>) -> Result<(), AllocError> {
     push_record(out, 0x04, 0, &[])
 }
 
+/// A cell with all that stands in it.
+pub fn push_cell(
+    alloc: Global,
+    out: &mut Vec<u8>,
+    name: &str,
+    items: &[Item],
+) -> Result<(), AllocError> {
+    begin_cell(alloc, out, name)?;
+    for item in items {
+        push_item(alloc, out, item)?;
+    }
+    end_cell(out)
+}
+
 /// The stream of these cells.
 pub fn library(alloc: Global, cells: &[Cell]) -> Result<Vec<u8>, AllocError> {
     let mut out = begin(alloc)?;
     for Cell(name, items) in cells {
-        begin_cell(alloc, &mut out, name)?;
-        for item in *items {
-            push_item(alloc, &mut out, item)?;
-        }
-        end_cell(&mut out)?;
+        push_cell(alloc, &mut out, name, items)?;
     }
     end(&mut out)?;
     Ok(out)

@@ -33,7 +33,7 @@ const ONE_BAD: &str = "extracted cells 1 circuits 1 bad 1\n";
 const NOTHING: &str = "* lvs netlist\n.SUBCKT A\n.ENDS A\n.END\n";
 
 /// Nets and gates of one cell and of several.
-static CELLS: [Case; 6] = [
+static CELLS: [Case; 7] = [
     // The wire of the parent goes on in the child: one net. A cell without a device has no circuit.
     Case {
         name: "net_through_child",
@@ -131,6 +131,28 @@ X1 VSS MID
         line: ONE_BAD,
         shapes: &[Cell("A", &[])],
         netlist: NOTHING,
+    },
+    // The same in a placed cell, which has no circuit.
+    Case {
+        name: "bad gate of a placed cell",
+        layout: &[
+            Cell(
+                "A",
+                &[
+                    Rect(2, [0, 0, 50, 50]),
+                    Rect(3, [10, 10, 40, 20]),
+                    Rect(3, [10, 30, 40, 40]),
+                    Rect(3, [10, 20, 20, 30]),
+                    Rect(3, [30, 20, 40, 30]),
+                ],
+            ),
+            Cell("TOP", &[Placed("A", 0, 0)]),
+        ],
+        rules: MOS,
+        code: 1,
+        line: "extracted cells 2 circuits 1 bad 1\n",
+        shapes: &[Cell("A", &[]), Cell("TOP", &[Placed("A", 0, 0)])],
+        netlist: "* lvs netlist\n.SUBCKT TOP\n.ENDS TOP\n.END\n",
     },
     // The parent's bar makes the transistor: the child has no circuit.
     Case {

@@ -1,10 +1,14 @@
 //! Tests of whole runs over memory: streams and words that are read or refused, drawn layouts whose
 //! shapes, netlists and reports were worked out by hand, layouts at the limits, calls that fail, and
-//! chips that were made.
+//! chips that were made; and of a layout's way: streams that are read in pieces, what windows find,
+//! what is written and read again, and the phases from a stream and a rule file to nets, gates, pins
+//! and the netlist.
 #![tactic(auto)]
 
 #[cfg(test)]
 mod abreast;
+#[cfg(test)]
+mod again;
 #[cfg(test)]
 mod cases;
 #[cfg(test)]
@@ -28,19 +32,35 @@ mod extracted;
 #[cfg(test)]
 mod failing;
 #[cfg(test)]
+mod gates;
+#[cfg(test)]
 mod hierarchies;
+#[cfg(test)]
+mod inputs;
 #[cfg(test)]
 mod klayout;
 #[cfg(test)]
 mod layouts;
 #[cfg(test)]
+mod lettered;
+#[cfg(test)]
+mod letters;
+#[cfg(test)]
 mod limits;
+#[cfg(test)]
+mod listing;
 #[cfg(test)]
 mod made;
 #[cfg(test)]
 mod many;
 #[cfg(test)]
+mod nets;
+#[cfg(test)]
+mod pins;
+#[cfg(test)]
 mod quiet;
+#[cfg(test)]
+mod reading;
 #[cfg(test)]
 mod refused;
 #[cfg(test)]
@@ -57,6 +77,8 @@ mod told;
 mod turned;
 #[cfg(test)]
 mod turns;
+#[cfg(test)]
+mod windows;
 #[cfg(test)]
 mod wired;
 #[cfg(test)]

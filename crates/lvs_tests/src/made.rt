@@ -3,6 +3,7 @@
 use crate::commands::{Failing, NONE, Ran, bytes_of, ends, holds, joined, run_files};
 use job_board::OpenGate;
 use std::alloc::{AllocError, Global};
+use std::process::Abort;
 use std::sync::Wait;
 use std::test::Fail;
 use std::thread::Threads;
@@ -123,6 +124,32 @@ fn are_alike(ran: &Ran, other: &Ran) -> bool {
     ran.shapes == other.shapes && ran.netlist == other.netlist && ran.report == other.report
 }
 
+// A chip by so many workers matches, and leaves what the first run left.
+fn runs_alike<R: Abort + Threads + Wait + Sync>(
+    rt: &R,
+    alloc: Global,
+    chip: &Ran,
+    workers: &str,
+    first: &Ran,
+) -> Result<(), AllocError> {
+    let ran = run_made(rt, alloc, chip, workers, NONE)?;
+    ends(rt, &ran, 0, BIG, workers);
+    assert!(rt; are_alike(&ran, first), "{workers} workers");
+    Ok(())
+}
+
+// A run of which a call fails leaves no file.
+fn leaves_nothing<R: Abort + Threads + Wait + Sync>(
+    rt: &R,
+    alloc: Global,
+    chip: &Ran,
+) -> Result<(), AllocError> {
+    let failed = run_made(rt, alloc, chip, "1", Failing { depot: 5, sink: 0 })?;
+    ends(rt, &failed, 4, "", "failed");
+    assert!(rt; has_files(&failed, [false; 3]));
+    Ok(())
+}
+
 // `make`, then `run` on its files: one line, and the same bytes by any number of workers. A call
 // that fails leaves no file.
 #[test]
@@ -134,13 +161,9 @@ fn generated_chip(rt: HostRuntime) -> Result<(), Fail> {
     let first = run_made(&rt, alloc, &made, "1", NONE)?;
     ends(&rt, &first, 0, BIG, "1");
     for workers in ["4", "64"] {
-        let ran = run_made(&rt, alloc, &made, workers, NONE)?;
-        ends(&rt, &ran, 0, BIG, workers);
-        assert!(rt; are_alike(&ran, &first), "{workers} workers");
+        runs_alike(&rt, alloc, &made, workers, &first)?;
     }
-    let failed = run_made(&rt, alloc, &made, "1", Failing { depot: 5, sink: 0 })?;
-    ends(&rt, &failed, 4, "", "failed");
-    assert!(rt; has_files(&failed, [false; 3]));
+    leaves_nothing(&rt, alloc, &made)?;
     Ok(())
 }
 

@@ -319,6 +319,34 @@ static NAMED: [(&[&str], &[&str], &str); 2] = [
     ),
 ];
 
+// `extract` with these words more is refused.
+fn is_unclear<R: Abort + Threads + Wait + Sync>(
+    rt: &R,
+    alloc: Global,
+    inputs: Inputs<'_>,
+    more: &[&str],
+    line: &str,
+) -> Result<(), AllocError> {
+    let words = joined(alloc, &EXTRACT, more)?;
+    refuses(rt, alloc, inputs, &words, line)
+}
+
+// The transistor's cell alone is the top of these words.
+fn is_top<R: Abort + Threads + Wait + Sync>(
+    rt: &R,
+    alloc: Global,
+    inputs: Inputs<'_>,
+    words: &[&str],
+    line: &str,
+) -> Result<(), AllocError> {
+    let ran = run_of(rt, alloc, inputs, words, NONE)?;
+    ends(rt, &ran, 0, line, "top");
+    holds(rt, &ran.netlist, T_NETLIST, "top");
+    let wanted = library(alloc, &[Cell("T", &[])])?;
+    assert!(rt; ran.shapes == Some(wanted));
+    Ok(())
+}
+
 // The cell of the given name alone is extracted; names differ in the case of their letters.
 #[test]
 fn named_top(rt: HostRuntime) -> Result<(), Fail> {
@@ -330,16 +358,10 @@ fn named_top(rt: HostRuntime) -> Result<(), Fail> {
         schematic: T_SCHEMATIC,
     };
     for (more, line) in &UNCLEAR {
-        let words = joined(alloc, &EXTRACT, more)?;
-        refuses(&rt, alloc, inputs, &words, line)?;
+        is_unclear(&rt, alloc, inputs, more, line)?;
     }
-    let wanted = Some(library(alloc, &[Cell("T", &[])])?);
     for (first, more, line) in &NAMED {
-        let words = joined(alloc, first, more)?;
-        let ran = run_of(&rt, alloc, inputs, &words, NONE)?;
-        ends(&rt, &ran, 0, line, "top");
-        holds(&rt, &ran.netlist, T_NETLIST, "top");
-        assert!(rt; ran.shapes == wanted);
+        is_top(&rt, alloc, inputs, &joined(alloc, first, more)?, line)?;
     }
     Ok(())
 }

@@ -311,18 +311,40 @@ static SAME: [(&[Splice], usize); 2] = [
     (&[Splice(154, &POINTS, 154)], 274),
 ];
 
+// A stream with these parts changed is refused.
+fn refuses_changed<R: Abort + Threads + Wait + Sync>(
+    rt: &R,
+    alloc: Global,
+    layout: &[u8],
+    splices: &[Splice],
+    line: &str,
+) -> Result<(), AllocError> {
+    let changed = spliced(alloc, layout, splices)?;
+    refuses(rt, alloc, drawing(&changed, RULES), &SHAPES, line)
+}
+
+// A stream with these parts changed has this length, and gives the same.
+fn writes_same<R: Abort + Threads + Wait + Sync>(
+    rt: &R,
+    alloc: Global,
+    layout: &[u8],
+    splices: &[Splice],
+    length: usize,
+) -> Result<(), AllocError> {
+    let changed = spliced(alloc, layout, splices)?;
+    assert!(rt; changed.len() == length, "{length}");
+    writes(rt, alloc, &changed, RULES, COMMON_LINE, &COMMON)
+}
+
 #[test]
 fn changed_streams(rt: HostRuntime) -> Result<(), Fail> {
     let alloc = rt.alloc();
     let layout = stream(alloc, &OVERLAP)?;
     for (splices, line) in &CHANGED {
-        let changed = spliced(alloc, &layout, splices)?;
-        refuses(&rt, alloc, drawing(&changed, RULES), &SHAPES, line)?;
+        refuses_changed(&rt, alloc, &layout, splices, line)?;
     }
     for (splices, length) in &SAME {
-        let changed = spliced(alloc, &layout, splices)?;
-        assert_eq!(rt; changed.len(), *length);
-        writes(&rt, alloc, &changed, RULES, COMMON_LINE, &COMMON)?;
+        writes_same(&rt, alloc, &layout, splices, *length)?;
     }
     Ok(())
 }

@@ -1,0 +1,355 @@
+//! Layouts read in pieces.
+
+ghost use Rattle.std.specs.Prelude.{◌≤◌, ◌<◌, length};
+
+use crate::drawn::Item::{Placed, Rect, Turned};
+use crate::drawn::{Cell, begin, begin_cell, end, end_cell, library, push_placed};
+use crate::listing::told;
+use crate::streams::{Splice, front, spliced};
+use cell_graph::LinkFault;
+use gds_elements::GdsFault;
+use gds_layout::{Layout, LayoutFault, LayoutReader, read_layout};
+use geo_base::LayerKey;
+use net_names::Name;
+use std::alloc::{AllocError, Global};
+use std::test::Fail;
+
+/// The layers 1/0 and 2/0.
+const KEYS: [LayerKey; 2] = [
+    LayerKey {
+        layer: 1,
+        datatype: 0,
+    },
+    LayerKey {
+        layer: 2,
+        datatype: 0,
+    },
+];
+
+/// Two squares in one cell.
+const SQUARES: [Cell; 1] = [Cell("A", &[Rect(1, [0, 0, 10, 10]), Rect(2, [5, 5, 15, 15])])];
+
+/// A reference to a cell that isn't there.
+const MISSING: [Cell; 1] = [Cell("A", &[Placed("B", 0, 0)])];
+
+/// Each layout's cells, and what is read of them.
+static LAYOUTS: [(&[Cell], &str); 2] = [
+    (
+        &SQUARES,
+        "unit 1000 top 0
+name 65
+hull 0 0 15 15
+1/0 0 0 10 10
+2/0 5 5 15 15
+",
+    ),
+    // Each element's square is that of its origin, one to the right and two up.
+    (
+        &[
+            Cell("K", &[Rect(1, [2, 1, 3, 2])]),
+            Cell(
+                "T",
+                &[
+                    Turned("K", 3, 2, [(100, 200), (130, 200), (100, 240)]),
+                    Rect(2, [0, 0, 5, 5]),
+                ],
+            ),
+        ],
+        "unit 1000 top 1
+name 75
+hull 2 1 3 2
+1/0 2 1 3 2
+name 84
+hull 0 0 122 223
+2/0 0 0 5 5
+cell 0 M90 100 200, 3 columns by 10 0, 2 rows by 0 20
+",
+    ),
+];
+
+// A reader that was fed the bytes in pieces of this size, the last one shorter.
+fn fed(alloc: Global, bytes: &[u8], size: usize) -> Result<LayoutReader, LayoutFault>
+    requires { 0 < size }
+{
+    let mut reader = LayoutReader::new(alloc);
+    let mut rest = bytes;
+    while !rest.is_empty() {
+        let (piece, behind) = rest.split_at(usize::min(size, rest.len()));
+        reader.feed(alloc, piece)?;
+        rest = behind;
+    }
+    Ok(reader)
+}
+
+fn in_pieces(alloc: Global, bytes: &[u8], size: usize) -> Result<Layout, LayoutFault>
+    requires { 0 < size }
+{
+    fed(alloc, bytes, size)?.finish(alloc, None)
+}
+
+fn cut(alloc: Global, bytes: &[u8], at: usize) -> Result<Layout, LayoutFault>
+    requires { at ≤ length bytes.now }
+{
+    let (piece, behind) = bytes.split_at(at);
+    let mut reader = LayoutReader::new(alloc);
+    reader.feed(alloc, piece)?;
+    reader.feed(alloc, behind)?;
+    reader.finish(alloc, None)
+}
+
+// What is read of a layout.
+fn text_of(alloc: Global, layout: Result<Layout, LayoutFault>) -> Result<String, LayoutFault> {
+    Ok(told(alloc, &layout?, &KEYS)?)
+}
+
+// Whole, cut at each place, and in pieces of one size.
+#[test]
+fn read_in_pieces(rt: HostRuntime) -> Result<(), Fail> {
+    let alloc = rt.alloc();
+    for (cells, wanted) in &LAYOUTS {
+        let stream = library(alloc, cells)?;
+        let whole = text_of(alloc, read_layout(alloc, &stream, None))?;
+        assert_eq!(rt; whole.as_str(), *wanted);
+        for at in 0..=stream.len() {
+            let found = text_of(alloc, cut(alloc, &stream, at))?;
+            assert!(rt; found.as_str() == *wanted, "{at}");
+        }
+        for size in [1, 2, 3, 1000] {
+            let found = text_of(alloc, in_pieces(alloc, &stream, size))?;
+            assert!(rt; found.as_str() == *wanted, "{size}");
+        }
+    }
+    Ok(())
+}
+
+/// The number of a fault of the stream, its record and its offset.
+type Place = (u8, u64, u64);
+
+fn place_of(fault: &LayoutFault) -> Option<Place> {
+    match fault {
+        LayoutFault::Gds(
+            GdsFault::Bad {
+                number,
+                index,
+                offset,
+            },
+        ) => Some((*number, *index, *offset)),
+        _ => None,
+    }
+}
+
+// The place of an answer's fault.
+fn fault_of<T: Drop>(answer: Result<T, LayoutFault>) -> Option<Place> {
+    place_of(&answer.err()?)
+}
+
+// The two squares, the second with a slanted edge.
+fn slanted(alloc: Global) -> Result<Vec<u8>, AllocError> {
+    let straight = library(alloc, &SQUARES)?;
+    spliced(alloc, &straight, &[Splice(201, &[16], 202)])
+}
+
+/// Where each record of the two squares' stream ends.
+static ENDS: [usize; 18] = [
+    6, 34, 40, 60, 88, 94, 98, 104, 110, 154, 158, 162, 168, 174, 218, 222, 226, 230,
+];
+
+// The fault of so many first bytes of that stream: too few, in the record that they end in.
+fn cut_place(at: usize) -> Place {
+    let mut place: Place = (1, 0, 0);
+    for end in &ENDS {
+        if *end <= at {
+            place = (1, place.1.saturating_add(1), *end as u64);
+        }
+    }
+    place
+}
+
+// Whether the stream's first bytes have that fault, whole and in pieces.
+fn is_cut(alloc: Global, stream: &[u8], at: usize) -> bool {
+    let wanted = Some(cut_place(at));
+    let bytes = front(stream, at);
+    if fault_of(read_layout(alloc, bytes, None)) != wanted {
+        return false;
+    }
+    for size in [1, 7, 1000] {
+        if fault_of(in_pieces(alloc, bytes, size)) != wanted {
+            return false;
+        }
+    }
+    true
+}
+
+#[test]
+fn cuts_of_the_stream(rt: HostRuntime) -> Result<(), Fail> {
+    let alloc = rt.alloc();
+    let squares = library(alloc, &SQUARES)?;
+    assert_eq!(rt; squares.len(), 230);
+    for at in 0..230 {
+        assert!(rt; is_cut(alloc, &squares, at), "{at}");
+    }
+    Ok(())
+}
+
+// A slanted edge, and a missing cell in a stream without an end: the stream's fault comes first.
+#[test]
+fn faults_in_pieces(rt: HostRuntime) -> Result<(), Fail> {
+    let alloc = rt.alloc();
+    let slanted = slanted(alloc)?;
+    let missing = library(alloc, &MISSING)?;
+    assert_eq!(rt; missing.len(), 128);
+    for size in [1, 2, 3, 1000] {
+        let first = fault_of(in_pieces(alloc, front(&slanted, 230), size));
+        assert!(rt; first == Some((6, 14, 174)), "{size}");
+        let second = fault_of(in_pieces(alloc, front(&missing, 124), size));
+        assert!(rt; second == Some((1, 11, 124)), "{size}");
+    }
+    Ok(())
+}
+
+// A fault is told as soon as its record is whole, with the 218th byte, and not for too few bytes.
+#[test]
+fn told_with_its_record(rt: HostRuntime) -> Result<(), Fail> {
+    let alloc = rt.alloc();
+    let slanted = slanted(alloc)?;
+    for at in 0..=230usize {
+        let mut reader = LayoutReader::new(alloc);
+        let answer = reader.feed(alloc, front(&slanted, at));
+        assert!(rt; answer.is_err() == (at >= 218), "{at}");
+    }
+    Ok(())
+}
+
+// More bytes, and the end, answer the same fault again.
+#[test]
+fn kept_fault(rt: HostRuntime) -> Result<(), Fail> {
+    let alloc = rt.alloc();
+    let slanted = slanted(alloc)?;
+    assert_eq!(rt; slanted.len(), 230);
+    let mut reader = LayoutReader::new(alloc);
+    let first = fault_of(reader.feed(alloc, &slanted));
+    let second = fault_of(reader.feed(alloc, &[0, 4]));
+    let third = fault_of(reader.finish(alloc, None));
+    let wanted = Some((6, 14, 174));
+    assert!(rt; first == wanted && second == wanted && third == wanted);
+    Ok(())
+}
+
+// A fault of the links: its number and its first cell's name.
+fn link_of(fault: &LayoutFault) -> (u8, &[u8]) {
+    match fault {
+        LayoutFault::Link(LinkFault::DuplicateCell(name)) => (20, name.bytes()),
+        LayoutFault::Link(LinkFault::NoSuchCell(name)) => (21, name.bytes()),
+        LayoutFault::Link(LinkFault::Cycle(name)) => (22, name.bytes()),
+        LayoutFault::Link(LinkFault::TopUnclear(name, _)) => (23, name.bytes()),
+        LayoutFault::Link(LinkFault::NoTop) => (24, &[]),
+        LayoutFault::Link(LinkFault::CoordinateRange(name)) => (25, name.bytes()),
+        LayoutFault::Link(LinkFault::TooManyCells) => (26, &[]),
+        LayoutFault::Link(LinkFault::TooDeep(name)) => (27, name.bytes()),
+        _ => (0, &[]),
+    }
+}
+
+/// Cells that can't be linked, the name of the top or nothing, and their fault.
+static UNLINKED: [(&[Cell], &str, u8, &str); 7] = [
+    (&[], "", 24, ""),
+    (&[Cell("A", &[])], "B", 24, ""),
+    (&[Cell("A", &[]), Cell("A", &[])], "", 20, "A"),
+    (&MISSING, "", 21, "B"),
+    (
+        &[
+            Cell("A", &[Placed("B", 0, 0)]),
+            Cell("B", &[Placed("A", 0, 0)]),
+        ],
+        "",
+        22,
+        "A",
+    ),
+    (&[Cell("A", &[]), Cell("B", &[])], "", 23, "A"),
+    // A cell that stands there twice is told before a missing one.
+    (
+        &[
+            Cell("A", &[Placed("B", 0, 0)]),
+            Cell("C", &[]),
+            Cell("C", &[]),
+        ],
+        "",
+        20,
+        "C",
+    ),
+];
+
+// Whether the answer is this fault of the links.
+fn is_fault(answer: Result<Layout, LayoutFault>, number: u8, name: &str) -> bool {
+    match answer {
+        Ok(_) => false,
+        Err(fault) => {
+            let (found, cell) = link_of(&fault);
+            found == number && cell == name.as_bytes()
+        }
+    }
+}
+
+// The layout of this top of a stream in pieces of this size, or what the end answers.
+fn ended(
+    alloc: Global,
+    stream: &[u8],
+    size: usize,
+    top: &str,
+) -> Result<Result<Layout, LayoutFault>, LayoutFault>
+    requires { 0 < size }
+{
+    let top = Name::from_bytes(alloc, top.as_bytes())?;
+    let reader = fed(alloc, stream, size)?;
+    Ok(reader.finish(alloc, top.as_ref()))
+}
+
+// A fault of the links comes from the end alone, whatever the pieces.
+#[test]
+fn links_at_the_end(rt: HostRuntime) -> Result<(), Fail> {
+    let alloc = rt.alloc();
+    for (cells, top, number, name) in &UNLINKED {
+        let stream = library(alloc, cells)?;
+        for size in [1, 1000] {
+            let answer = ended(alloc, &stream, size, top)?;
+            assert!(rt; is_fault(answer, *number, name), "{number} {size}");
+        }
+    }
+    Ok(())
+}
+
+fn push_empty(alloc: Global, out: &mut Vec<u8>, number: u32) -> Result<(), AllocError> {
+    begin_cell(alloc, out, format!(in alloc; "C{number}")?.as_str())?;
+    end_cell(out)
+}
+
+fn push_once(alloc: Global, out: &mut Vec<u8>, number: u32) -> Result<(), AllocError> {
+    push_placed(alloc, out, format!(in alloc; "C{number}")?.as_str(), 0, 0)
+}
+
+// Cells by their numbers, and a cell that places each of them once.
+fn placed_once(alloc: Global, cells: u32) -> Result<Vec<u8>, AllocError> {
+    let mut out = begin(alloc)?;
+    for number in 0..cells {
+        push_empty(alloc, &mut out, number)?;
+    }
+    begin_cell(alloc, &mut out, "TOP")?;
+    for number in 0..cells {
+        push_once(alloc, &mut out, number)?;
+    }
+    end_cell(&mut out)?;
+    end(&mut out)?;
+    Ok(out)
+}
+
+// As many cells as a layout may have, and one more.
+#[test]
+fn most_cells(rt: HostRuntime) -> Result<(), Fail> {
+    let alloc = rt.alloc();
+    let layout = read_layout(alloc, &placed_once(alloc, 65535)?, None)?;
+    assert!(rt; layout.design.cells() == 65536);
+    assert!(rt; layout.design.top() == 65535);
+    let answer = read_layout(alloc, &placed_once(alloc, 65536)?, None);
+    assert!(rt; is_fault(answer, 26, ""));
+    Ok(())
+}

@@ -1,5 +1,0 @@
-use Rattle.refine_tests.specs.Fitting.{AreDevicesFit}
-use Rattle.refine_tests.proofs.fitting.devices_fit.Given as goal
-
-abbrev pub invariant-loop-k : goal.invariant-loop-k
-invariant-loop-k l = AreDevicesFit l.circuit l.k
