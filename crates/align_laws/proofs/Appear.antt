@@ -5,10 +5,12 @@ use Rattle.std.specs.List.{flat_map}
 use Rattle.std.proofs.lemmas.List.{map-append}
 use Rattle.std.proofs.lemmas.Simd.{map-map}
 use Rattle.std.proofs.lemmas.Option.{none-some, same_Some, slice_get_within}
-use Rattle.plain_netlist.specs.Netlist.{Pole, Source, Gate, Drain, Bulk, on, DeviceRow, CallRow, Circuit, Netlist, IsCircuit, IsCall, HasNet}
-use Rattle.plain_netlist.specs.Normal.{terminal_nets, appearances}
+use Rattle.plain_netlist.specs.Netlist.{DeviceRow, CallRow, Circuit, Netlist, IsCircuit, IsCall, HasNet}
+use Rattle.plain_netlist.specs.Devices.{terminal_nets, row_over}
+use Rattle.plain_netlist.specs.Normal.{appearances}
+use Rattle.plain_netlist.proofs.Members.{listed}
+use Rattle.plain_netlist.proofs.Rows.{terminal_nets_over}
 use Rattle.plain_netlist.specs.Sound.{IsGood}
-use Rattle.align_laws.specs.Flat.{row_through}
 use Rattle.align_laws.specs.Lists.{over, pieces, net_at_pin, given_of}
 use Rattle.align_laws.specs.Cut.{Alignment, CutCall, held_pins, cut_row, cut_calls, cut, OnHeldPin, AreCut}
 use Rattle.align_laws.proofs.CutList.{given_is, held_of}
@@ -30,22 +32,12 @@ flat_of g (z ∷ zs) i y h = elim (append_cases (g z) (flat_map g zs) i y h) [
 ]
 
 -- terminals of devices
-pub terminal_of : (d : DeviceRow) (q n : ℕ) → slice_get (terminal_nets d) q ≡ Some n → (pole : Pole) × (on pole d ≡ n)
-terminal_of d zero n h = (Drain, same_Some _ _ h)
-terminal_of d (suc zero) n h = (Gate, same_Some _ _ h)
-terminal_of d (suc (suc zero)) n h = (Source, same_Some _ _ h)
-terminal_of d (suc (suc (suc zero))) n h = (Bulk, same_Some _ _ h)
-terminal_of d (suc (suc (suc (suc q)))) n h = absurd (none-some n h)
+abbrev pub named : DeviceRow → List ℕ
+named d = terminal_nets d
 
-pub terminal_at : (d : DeviceRow) (pole : Pole) → (q : ℕ) × (slice_get (terminal_nets d) q ≡ Some (on pole d))
-terminal_at d Drain = (0, refl)
-terminal_at d Gate = (1, refl)
-terminal_at d Source = (2, refl)
-terminal_at d Bulk = (3, refl)
-
-flat_rows : (f : ℕ → ℕ) (ds : List DeviceRow) → flat_map terminal_nets (map (row_through f) ds) ≡ map f (flat_map terminal_nets ds)
+flat_rows : (f : ℕ → ℕ) (ds : List DeviceRow) → flat_map named (map (row_over f) ds) ≡ map f (flat_map named ds)
 flat_rows f [] = refl
-flat_rows f (d ∷ ds) = ap (λ (zs : List ℕ). map f (terminal_nets d) ++ zs) (flat_rows f ds) ∙ sym (map-append f (terminal_nets d) (flat_map terminal_nets ds))
+flat_rows f (d ∷ ds) = ap₂ (λ (ys zs : List ℕ). ys ++ zs) (terminal_nets_over f d) (flat_rows f ds) ∙ sym (map-append f (named d) (flat_map named ds))
 
 -- the nets of a call at the held pins of the called circuit
 abbrev pub old_nets : Netlist → Alignment → CallRow → List ℕ
@@ -56,7 +48,7 @@ kept_calls f w c = keep w.kept (given_of f c).calls
 
 -- the nets of the flat circuit that the cut one names, in the order of appearance
 abbrev pub old : Netlist → Alignment → ℕ → List ℕ
-old f w c = held_pins f w c ++ (flat_map terminal_nets (given_of f c).devices ++ flat_map (old_nets f w) (kept_calls f w c))
+old f w c = held_pins f w c ++ (flat_map named (given_of f c).devices ++ flat_map (old_nets f w) (kept_calls f w c))
 
 one_kept : (f : Netlist) (w : Alignment) (c k : ℕ) (row : CallRow) (us : List CutCall) (vs : List CallRow) → map (λ (r : CutCall). r.row) us ≡ map (cut_row f w c) vs → (b : Bool)
     → map (λ (r : CutCall). r.row) (cond b (record { from = k; row = cut_row f w c row } ∷ []) [] ++ us) ≡ map (cut_row f w c) (cond b (row ∷ vs) vs)
@@ -82,8 +74,8 @@ calls_flat f w c (r ∷ rs) =
 pub appear : (f : Netlist) (w : Alignment) (c : ℕ) → appearances (cut f w c) ≡ map (w.new c) (old f w c)
 appear f w c =
     ap₂ (λ (us vs : List ℕ). map (w.new c) (held_pins f w c) ++ (us ++ vs)) (flat_rows (w.new c) (given_of f c).devices) (ap (flat_map (λ (r : CallRow). r.nets)) (cut_kept f w c) ∙ calls_flat f w c (kept_calls f w c))
-    ∙ (ap (λ (us : List ℕ). map (w.new c) (held_pins f w c) ++ us) (sym (map-append (w.new c) (flat_map terminal_nets (given_of f c).devices) (flat_map (old_nets f w) (kept_calls f w c))))
-    ∙ sym (map-append (w.new c) (held_pins f w c) (flat_map terminal_nets (given_of f c).devices ++ flat_map (old_nets f w) (kept_calls f w c))))
+    ∙ (ap (λ (us : List ℕ). map (w.new c) (held_pins f w c) ++ us) (sym (map-append (w.new c) (flat_map named (given_of f c).devices) (flat_map (old_nets f w) (kept_calls f w c))))
+    ∙ sym (map-append (w.new c) (held_pins f w c) (flat_map named (given_of f c).devices ++ flat_map (old_nets f w) (kept_calls f w c))))
 
 module _ (f o : Netlist) (w : Alignment) (are : AreCut f o w) (height : ℕ → ℕ) (good : IsGood f height) where
   pub given_at : (c : ℕ) → w.kept c ≡ true → IsCircuit f c (given_of f c)
@@ -92,7 +84,7 @@ module _ (f o : Netlist) (w : Alignment) (are : AreCut f o w) (height : ℕ → 
   -- a held net is a net
   pub held_there : (c n : ℕ) → w.kept c ≡ true → w.held c n ≡ true → HasNet f c n
   held_there c n kept h = elim ((are.held c n kept).0 h) [
-    | inl (j, row, pole, device, net) ↦ subst (λ (m : ℕ). HasNet f c m) net (good.within.devices c j row pole device)
+    | inl (j, row, device, on) ↦ good.within.devices c j n row device on
     | inr (k, row, p, inner, call, kept', net, pin, held) ↦ good.within.calls c k p n row call net
   ]
 
@@ -121,13 +113,12 @@ module _ (f o : Netlist) (w : Alignment) (are : AreCut f o w) (height : ℕ → 
   all_held c i n kept at =
       let x : Circuit = given_of f c in
       let is = given_at c kept in
-      elim (append_cases (held_pins f w c) (flat_map terminal_nets x.devices ++ flat_map (old_nets f w) (kept_calls f w c)) i n at) [
+      elim (append_cases (held_pins f w c) (flat_map named x.devices ++ flat_map (old_nets f w) (kept_calls f w c)) i n at) [
         | inl pin ↦ (held_of f w height good c i n x is pin).1
-        | inr (m, rest, e) ↦ elim (append_cases (flat_map terminal_nets x.devices) (flat_map (old_nets f w) (kept_calls f w c)) m n rest) [
+        | inr (m, rest, e) ↦ elim (append_cases (flat_map named x.devices) (flat_map (old_nets f w) (kept_calls f w c)) m n rest) [
           | inl device ↦
-              let d = flat_of terminal_nets x.devices m n device in
-              let t = terminal_of d.1 d.2 n d.4 in
-              (are.held c n kept).1 (inl (d.0, d.1, t.0, (x, is, d.3), t.1))
+              let d = flat_of named x.devices m n device in
+              (are.held c n kept).1 (inl (d.0, d.1, (x, is, d.3), listed (named d.1) d.2 n d.4))
           | inr (j, call, g) ↦
               let r = flat_of (old_nets f w) (kept_calls f w c) j n call in
               let back = keep_from w.kept x.calls r.0 r.1 r.3 in

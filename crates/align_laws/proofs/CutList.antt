@@ -3,8 +3,8 @@ use Rattle.std.proofs.Common.{◌≡◌, inl, inr, ℕ, zero, suc, ◌<◌, Bool
 use Rattle.base_laws.proofs.Items.{item_at, map_to, map_from}
 use Rattle.std.proofs.lemmas.Bool.{cases_Bool}
 use Rattle.std.proofs.lemmas.Option.{slice_get_within}
-use Rattle.plain_netlist.specs.Netlist.{on, CallRow, Circuit, Netlist, IsCircuit, IsCall, IsPin}
-use Rattle.align_laws.specs.Flat.{row_through}
+use Rattle.plain_netlist.specs.Netlist.{CallRow, Circuit, Netlist, IsCircuit, IsCall, IsPin}
+use Rattle.plain_netlist.specs.Devices.{row_over}
 use Rattle.align_laws.specs.Lists.{joined_place, net_at_pin, circuit_or, call_or, given_of, row_of}
 use Rattle.align_laws.proofs.Prune.{ArePinsKept, ArePinsBack, IsPruned, ArePruned, from_or, cuts_of, AreDeadGone}
 use Rattle.plain_netlist.specs.Sound.{IsGood}
@@ -97,11 +97,11 @@ module _ (f o : Netlist) (w : Alignment) (are : AreCut f o w) (height : ℕ → 
       record {
         target = λ k row call. ap (λ (r : CallRow). r.circuit) (row_is f c k row call);
         device = λ j row dev.
-            (cut f w c, are.there c there, map_to (row_through (w.new c)) (given_of f c).devices j row (subst (λ (z : Circuit). slice_get z.devices j ≡ Some row) (sym (given_is f c dev.0 dev.1)) dev.2));
+            (cut f w c, are.there c there, map_to (row_over (w.new c)) (given_of f c).devices j row (subst (λ (z : Circuit). slice_get z.devices j ≡ Some row) (sym (given_is f c dev.0 dev.1)) dev.2));
         device_back = λ j other dev.
-            let m = map_from (row_through (w.new c)) (given_of f c).devices j other (subst (λ (z : Circuit). slice_get z.devices j ≡ Some other) (cut_is f o w are c dev.0 there dev.1) dev.2) in
+            let m = map_from (row_over (w.new c)) (given_of f c).devices j other (subst (λ (z : Circuit). slice_get z.devices j ≡ Some other) (cut_is f o w are c dev.0 there dev.1) dev.2) in
             (m.0, (x.0, x.1, subst (λ (z : Circuit). slice_get z.devices j ≡ Some m.0) (given_is f c x.0 x.1) m.1));
-        terminal = λ j row pole dev. (are.held c (on pole row) there).1 (inl (j, row, pole, dev, refl));
+        terminal = λ j n row dev on. (are.held c n there).1 (inl (j, row, dev, on));
         call = λ k row call kept.
             let item : CutCall = record { from = k; row = cut_row f w c row } in
             let one : slice_get (cut_call f w c k row) 0 ≡ Some item = subst (λ (t : Bool). slice_get (cond t (item ∷ []) []) 0 ≡ Some item) (sym kept) refl in

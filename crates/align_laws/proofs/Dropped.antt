@@ -2,18 +2,15 @@
 use Rattle.std.proofs.Common.{◌≡◌, ◌↔◌, ◌&&◌, inl, inr, ℕ, Bool, true, List, [], ◌∷◌, ◌++◌, Some, slice_get, refl, sym, ◌∙◌, ap, subst}
 use Rattle.std.proofs.lemmas.Bool.{cases_Bool, and_parts, and_from}
 use Rattle.plain_netlist.proofs.Once.{one_call}
-use Rattle.plain_netlist.specs.Netlist.{Pole, Source, Gate, Drain, Bulk, on, DeviceRow, CallRow, Netlist, IsCall, IsPin, Slot, Joins, IsJoin, IsEitherJoin, InOneNet, HasDevice, slot, IsOnPin}
-use Rattle.align_laws.specs.Flat.{below, IsRowImage, row_through}
+use Rattle.plain_netlist.specs.Netlist.{DeviceRow, CallRow, Netlist, IsCall, IsPin, Slot, Joins, IsJoin, IsEitherJoin, InOneNet, HasDevice, slot, IsOnPin}
+use Rattle.plain_netlist.specs.Lists.{IsListed}
+use Rattle.plain_netlist.specs.Devices.{terminal_nets, row_over, IsRowOver}
+use Rattle.plain_netlist.proofs.Rows.{over_wider, row_carried}
+use Rattle.align_laws.specs.Flat.{below}
 use Rattle.align_laws.proofs.Prune.{Cuts, ArePruned, IsHeldSlot, new_slot, new_path, IsPrunedExpansion, PruneLaw}
 use Rattle.plain_netlist.proofs.Links.{along}
 use Rattle.align_laws.proofs.Joined.{net_same, net_back, net_on, net_down, call_joins}
 use Rattle.align_laws.proofs.Anchor.{HeldLink, held_chain, held_root}
-
-pole_through : (f : ℕ → ℕ) (pole : Pole) (r : DeviceRow) → on pole (row_through f r) ≡ f (on pole r)
-pole_through f Source r = refl
-pole_through f Gate r = refl
-pole_through f Drain r = refl
-pole_through f Bulk r = refl
 
 abbrev held_at : Cuts → ℕ → List ℕ → ℕ → Bool
 held_at v c [] n = v.held c n
@@ -196,22 +193,22 @@ module _ (f o : Netlist) (v : Cuts) (are : ArePruned f o v) where
     | inr n ↦ absurd ((are.each c there).dead k call is n path j row h)
   ]
 
-  terminal : (path : List ℕ) (c j : ℕ) (row : DeviceRow) (pole : Pole) → v.kept c ≡ true → HasDevice f c path j row → IsHeldSlot f v c path (on pole row)
-  terminal [] c j row pole there h = (are.each c there).terminal j row pole h
-  terminal (k ∷ ks) c j row pole there (call, is, h) =
+  terminal : (path : List ℕ) (c j n : ℕ) (row : DeviceRow) → v.kept c ≡ true → HasDevice f c path j row → IsListed n (terminal_nets row) → IsHeldSlot f v c path n
+  terminal [] c j n row there h on = (are.each c there).terminal j n row h on
+  terminal (k ∷ ks) c j n row there (call, is, h) on =
       let kept = kept_call c k call ks j row there is h in
-      (call, is, kept, terminal ks call.circuit j row pole kept h)
+      (call, is, kept, terminal ks call.circuit j n row kept h on)
 
   record Seen (c : ℕ) (path : List ℕ) (j : ℕ) (row : DeviceRow) : Type 0 where
     other : DeviceRow
     has : HasDevice o (v.number c) (new_path v c path) j other
-    image : IsRowImage (λ a b. new_slot v c path a ≡ slot (new_path v c path) b) row other
+    image : IsRowOver (λ a b. new_slot v c path a ≡ slot (new_path v c path) b) row other
 
   seen : (path : List ℕ) (c j : ℕ) (row : DeviceRow) → v.kept c ≡ true → HasDevice f c path j row → Seen c path j row
   seen [] c j row there h = record {
-    other = row_through (v.net c) row;
+    other = row_over (v.net c) row;
     has = (are.each c there).device j row h;
-    image = record { class = refl; length = refl; width = refl; poles = λ pole. ap (slot []) (sym (pole_through (v.net c) pole row)) };
+    image = over_wider (λ n m. v.net c n ≡ m) (λ a b. new_slot v c [] a ≡ slot [] b) (λ n m e. ap (slot []) e) row (row_over (v.net c) row) (row_carried (v.net c) row);
   }
   seen (k ∷ ks) c j row there (call, is, h) =
       let kept = kept_call c k call ks j row there is h in
@@ -221,13 +218,8 @@ module _ (f o : Netlist) (v : Cuts) (are : ArePruned f o v) where
       record {
         other = s.other;
         has = (m.0, m.1, subst (λ (t : ℕ). HasDevice o m.0.circuit (new_path v t ks) j s.other) (sym target) (subst (λ (t : ℕ). HasDevice o t (new_path v call.circuit ks) j s.other) (sym m.2) s.has));
-        image = record {
-          class = s.image.class;
-          length = s.image.length;
-          width = s.image.width;
-          poles = λ pole.
-              subst (λ (t : ℕ). below (v.call c k) (new_slot v t ks (on pole row)) ≡ slot (v.call c k ∷ new_path v t ks) (on pole s.other)) (sym target) (ap (below (v.call c k)) (s.image.poles pole));
-        };
+        image = over_wider (λ a b. new_slot v call.circuit ks a ≡ slot (new_path v call.circuit ks) b) (λ a b. new_slot v c (k ∷ ks) a ≡ slot (new_path v c (k ∷ ks)) b)
+            (λ n m low. subst (λ (t : ℕ). below (v.call c k) (new_slot v t ks n) ≡ slot (v.call c k ∷ new_path v t ks) m) (sym target) (ap (below (v.call c k)) low)) row s.other s.image;
       }
 
   record Found (c : ℕ) (es : List ℕ) (j : ℕ) : Type 0 where
@@ -269,7 +261,7 @@ module _ (f o : Netlist) (v : Cuts) (are : ArePruned f o v) where
 
   pub pruned_expansion : (c : ℕ) → v.kept c ≡ true → IsPrunedExpansion f o v c
   pruned_expansion c there = record {
-    terminal = λ path j row pole h. terminal path c j row pole there h;
+    terminal = λ path j n row h on. terminal path c j n row there h on;
     nets = nets c there;
     pins = pins c there;
     device = λ path j row h. let s = seen path c j row there h in (s.other, s.has, s.image);

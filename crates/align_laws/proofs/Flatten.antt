@@ -3,16 +3,12 @@ use Rattle.std.proofs.Common.{◌≡◌, ◌↔◌, inl, inr, ℕ, zero, suc, �
 use Rattle.base_laws.proofs.Items.{map_to, map_from}
 use Rattle.plain_netlist.proofs.Once.{one_call}
 use Rattle.plain_netlist.specs.Chains.{Reaches}
-use Rattle.plain_netlist.specs.Netlist.{Pole, Source, Gate, Drain, Bulk, on, DeviceRow, CallRow, Netlist, IsCall, IsDevice, IsPin, HasNet, IsSlot, Slot, Joins, IsEitherJoin, InOneNet, HasDevice, slot}
-use Rattle.align_laws.specs.Flat.{Placing, CallFate, Stays, Goes, Maps, below, beyond, inside, step, image, placed_net, placed_device, net_image, device_image, origin, IsPlacedInside, AreInlined, IsRowImage, IsSameExpansion, FlatLaw, row_through, call_through}
+use Rattle.plain_netlist.specs.Netlist.{DeviceRow, CallRow, Netlist, IsCall, IsDevice, IsPin, HasNet, IsSlot, Slot, Joins, IsEitherJoin, InOneNet, HasDevice, slot}
+use Rattle.plain_netlist.specs.Devices.{row_over, IsRowOver}
+use Rattle.plain_netlist.proofs.Rows.{over_wider, over_right, over_same}
+use Rattle.align_laws.specs.Flat.{Placing, CallFate, Stays, Goes, Maps, below, beyond, inside, step, image, placed_net, placed_device, net_image, device_image, origin, IsPlacedInside, AreInlined, IsSameExpansion, FlatLaw, call_through}
 use Rattle.plain_netlist.proofs.Links.{single, along}
 use Rattle.align_laws.proofs.Joined.{net_same, net_back, net_on, net_down, call_joins}
-
-pole_through : (f : ℕ → ℕ) (pole : Pole) (r : DeviceRow) → on pole (row_through f r) ≡ f (on pole r)
-pole_through f Source r = refl
-pole_through f Gate r = refl
-pole_through f Drain r = refl
-pole_through f Bulk r = refl
 
 module _ (g f : Netlist) (v : Maps) (height : ℕ → ℕ) (are : AreInlined g f v height) where
   -- joins of the called flat circuit are joins of the caller
@@ -220,7 +216,7 @@ module _ (g f : Netlist) (v : Maps) (height : ℕ → ℕ) (are : AreInlined g f
   record Seen (c : ℕ) (path : List ℕ) (j : ℕ) (row : DeviceRow) (t : Slot) : Type 0 where
     other : DeviceRow
     has : HasDevice f c t.path t.net other
-    image : IsRowImage (λ a b. net_image v c (slot path a) ≡ slot t.path b) row other
+    image : IsRowOver (λ a b. net_image v c (slot path a) ≡ slot t.path b) row other
     back : origin v v.device_from c t.path t.net ≡ slot path j
 
   stay_seen : (c k e : ℕ) (call : CallRow) (ks : List ℕ) (j : ℕ) (row : DeviceRow) (s : Slot) → IsCall g c k call → v.fate c k ≡ Stays e → Seen call.circuit ks j row s → Seen c (k ∷ ks) j row (below e s)
@@ -231,14 +227,10 @@ module _ (g f : Netlist) (v : Maps) (height : ℕ → ℕ) (are : AreInlined g f
       record {
         other = h.other;
         has = (call, there.0, h.has);
-        image = record {
-          class = h.image.class;
-          length = h.image.length;
-          width = h.image.width;
-          poles = λ pole.
-              ap (λ (x : CallFate). step placed_net x (image v placed_net (v.target c k) ks (on pole row))) fate
-              ∙ (ap (λ (t : ℕ). below e (image v placed_net t ks (on pole row))) target ∙ (let low : image v placed_net call.circuit ks (on pole row) ≡ slot s.path (on pole h.other) = h.image.poles pole in ap (below e) low));
-        };
+        image = over_wider (λ a b. net_image v call.circuit (slot ks a) ≡ slot s.path b) (λ a b. net_image v c (slot (k ∷ ks) a) ≡ slot (e ∷ s.path) b)
+            (λ n m low.
+            ap (λ (x : CallFate). step placed_net x (image v placed_net (v.target c k) ks n)) fate
+            ∙ (ap (λ (t : ℕ). below e (image v placed_net t ks n)) target ∙ ap (below e) low)) row h.other h.image;
         back = ap (λ (w : List ℕ). beyond w (origin v v.device_from (v.onward c e) s.path s.net)) there.1
             ∙ (ap (λ (t : ℕ). below k (origin v v.device_from t s.path s.net)) onward ∙ ap (below k) h.back);
       }
@@ -249,17 +241,12 @@ module _ (g f : Netlist) (v : Maps) (height : ℕ → ℕ) (are : AreInlined g f
       let target = (are.each c).target k call is in
       let there = inlaid.device sn h.other h.has in
       record {
-        other = row_through i.net h.other;
+        other = row_over i.net h.other;
         has = there.0;
-        image = record {
-          class = h.image.class;
-          length = h.image.length;
-          width = h.image.width;
-          poles = λ pole.
-              ap (λ (x : CallFate). step placed_net x (image v placed_net (v.target c k) ks (on pole row))) fate
-              ∙ (ap (λ (t : ℕ). step placed_net (Goes i) (image v placed_net t ks (on pole row))) target
-              ∙ (ap (step placed_net (Goes i)) (h.image.poles pole) ∙ ap (slot []) (sym (pole_through i.net pole h.other))));
-        };
+        image = over_right (λ a b. net_image v call.circuit (slot ks a) ≡ slot [] b) (λ a b. net_image v c (slot (k ∷ ks) a) ≡ slot [] b) i.net
+            (λ n m low.
+            ap (λ (x : CallFate). step placed_net x (image v placed_net (v.target c k) ks n)) fate
+            ∙ (ap (λ (t : ℕ). step placed_net (Goes i) (image v placed_net t ks n)) target ∙ ap (step placed_net (Goes i)) low)) row h.other h.image;
         back = there.1 ∙ ap (below k) h.back;
       }
   inlaid_seen c k i call ks j row (e ∷ es) sn is fate h =
@@ -272,15 +259,10 @@ module _ (g f : Netlist) (v : Maps) (height : ℕ → ℕ) (are : AreInlined g f
       record {
         other = h.other;
         has = (call_through i.net own, moved.0, h.has.2);
-        image = record {
-          class = h.image.class;
-          length = h.image.length;
-          width = h.image.width;
-          poles = λ pole.
-              ap (λ (x : CallFate). step placed_net x (image v placed_net (v.target c k) ks (on pole row))) fate
-              ∙ (ap (λ (t : ℕ). step placed_net (Goes i) (image v placed_net t ks (on pole row))) target
-              ∙ (let low : image v placed_net call.circuit ks (on pole row) ≡ slot (e ∷ es) (on pole h.other) = h.image.poles pole in ap (step placed_net (Goes i)) low));
-        };
+        image = over_wider (λ a b. net_image v call.circuit (slot ks a) ≡ slot (e ∷ es) b) (λ a b. net_image v c (slot (k ∷ ks) a) ≡ slot (i.call e ∷ es) b)
+            (λ n m low.
+            ap (λ (x : CallFate). step placed_net x (image v placed_net (v.target c k) ks n)) fate
+            ∙ (ap (λ (t : ℕ). step placed_net (Goes i) (image v placed_net t ks n)) target ∙ ap (step placed_net (Goes i)) low)) row h.other h.image;
         back = ap (λ (w : List ℕ). beyond w (origin v v.device_from (v.onward c (i.call e)) es sn)) moved.1
             ∙ (ap (λ (t : ℕ). beyond (k ∷ v.way call.circuit e) (origin v v.device_from t es sn)) onward ∙ ap (below k) h.back);
       }
@@ -292,7 +274,7 @@ module _ (g f : Netlist) (v : Maps) (height : ℕ → ℕ) (are : AreInlined g f
   seen : (path : List ℕ) (c j : ℕ) (row : DeviceRow) → HasDevice g c path j row → Seen c path j row (device_image v c path j)
   seen [] c j row h =
       let r = (are.each c).device j row h in
-      record { other = row; has = r.0; image = record { class = refl; length = refl; width = refl; poles = λ pole. refl }; back = r.1 }
+      record { other = row; has = r.0; image = over_same (λ a b. net_image v c (slot [] a) ≡ slot [] b) (λ n. refl) row; back = r.1 }
   seen (k ∷ ks) c j row (call, is, h) =
       let target = (are.each c).target k call is in
       let low = subst (λ (t : ℕ). Seen call.circuit ks j row (image v placed_device t ks j)) (sym target) (seen ks call.circuit j row h) in

@@ -3,11 +3,13 @@ use Rattle.std.proofs.Common.{◌≡◌, ◌↔◌, inl, inr, ℕ, zero, suc, �
 use Rattle.base_laws.proofs.Tests.{not_both}
 use Rattle.std.proofs.lemmas.Bool.{cases_Bool}
 use Rattle.std.proofs.Math.Path.{fun_ext}
-use Rattle.plain_netlist.specs.Netlist.{Pole, Source, Gate, Drain, Bulk, on, DeviceRow, CallRow, Netlist, IsCall, Slot, slot, InOneNet, HasDevice, IsTerminal, IsOnPin}
-use Rattle.plain_netlist.specs.Flats.{Row, AreRowsAlike, Corresponds, row_at, expanded}
+use Rattle.plain_netlist.specs.Netlist.{DeviceRow, CallRow, Netlist, IsCall, Slot, slot, InOneNet, HasDevice, IsTerminal, IsOnPin}
+use Rattle.plain_netlist.specs.Devices.{Row, AreRowsAlike, IsRowOver}
+use Rattle.plain_netlist.proofs.Rows.{rows_where, rows_over, over_alike}
+use Rattle.plain_netlist.specs.Flats.{Corresponds, row_at, expanded}
 use Rattle.plain_netlist.specs.Sound.{HasDevices, IsGood}
 use Rattle.plain_netlist.proofs.Once.{one_device, one_call}
-use Rattle.align_laws.specs.Flat.{Stays, Goes, Maps, AreInlined, call_through, IsRowImage, net_image, device_image}
+use Rattle.align_laws.specs.Flat.{Stays, Goes, Maps, AreInlined, call_through, net_image, device_image}
 use Rattle.align_laws.specs.Lists.{FlatCircuit, maps_of, AreFlat, row_of, given_of, placing_of, own_calls, joined_place}
 use Rattle.align_laws.specs.Cut.{Alignment, cut_path, cut_slot}
 use Rattle.align_laws.specs.Aligned.{IsAlignedBy, IsKeptExpansion, aligned_net, aligned_device, AlignedLaw, AlignedCorrespondsLaw}
@@ -110,18 +112,12 @@ module _ (g o : Netlist) (c d : ℕ) (net device : Slot → Slot) (h : IsKeptExp
   abbrev IsNet : Slot → Slot → Type 0
   IsNet s x = IsTerminal g c s × (net s ≡ x)
 
-  rows : (s : Slot) (row other : DeviceRow) → HasDevice g c s.path s.net row → IsRowImage (λ a b. net (slot s.path a) ≡ slot (device s).path b) row other → AreRowsAlike IsNet (row_at s.path row) (row_at (device s).path other)
-  rows s row other has image = record {
-    class = image.class;
-    length = image.length;
-    width = image.width;
-    gate = at Gate;
-    bulk = at Bulk;
-    channel = inl (at Source, at Drain);
-  }
-    where
-      at : (pole : Pole) → IsNet (slot s.path (on pole row)) (slot (device s).path (on pole other))
-      at pole = (record { device = s.net; row = row; pole = pole; has = has; on = refl }, image.poles pole)
+  rows : (s : Slot) (row other : DeviceRow) → HasDevice g c s.path s.net row → IsRowOver (λ a b. net (slot s.path a) ≡ slot (device s).path b) row other → AreRowsAlike IsNet (row_at s.path row) (row_at (device s).path other)
+  rows s row other has image =
+      let Image : ℕ → ℕ → Type 0 = λ a b. net (slot s.path a) ≡ slot (device s).path b in
+      let At : ℕ → ℕ → Type 0 = λ a b. IsNet (slot s.path a) (slot (device s).path b) in
+      rows_over At IsNet (slot s.path) (slot (device s).path) (λ n m k. k) row other
+      (rows_where Image At row other (λ n m on k. (record { device = s.net; row = row; has = has; on = on }, k)) (over_alike Image row other image))
 
   there : (s : Slot) (r : Row Slot) → (expanded g c).has_device s r → (x : Slot) × (q : Row Slot) × (expanded o d).has_device x q × IsDevice s x × AreRowsAlike IsNet r q
   there s r (row, has, e) =

@@ -5,16 +5,13 @@ use Rattle.std.proofs.lemmas.Bool.{cases_Bool}
 use Rattle.plain_netlist.proofs.Once.{one_call, one_row}
 use Rattle.plain_netlist.specs.Sound.{IsGood}
 use Rattle.std.proofs.lemmas.Option.{slice_get_within}
-use Rattle.plain_netlist.specs.Netlist.{Pole, Source, Gate, Drain, Bulk, on, DeviceRow, CallRow, Circuit, Netlist, IsCircuit, IsCall, IsDevice, IsPin, HasNet, slot}
-use Rattle.align_laws.specs.Flat.{Placing, Stays, Goes, Maps, below, IsPlacedInside, IsInlined, AreInlined, row_through, call_through}
+use Rattle.plain_netlist.specs.Netlist.{DeviceRow, CallRow, Circuit, Netlist, IsCircuit, IsCall, IsDevice, IsPin, HasNet, slot}
+use Rattle.plain_netlist.specs.Lists.{IsListed}
+use Rattle.plain_netlist.specs.Devices.{terminal_nets, row_over}
+use Rattle.plain_netlist.proofs.Rows.{terminal_over}
+use Rattle.align_laws.specs.Flat.{Placing, Stays, Goes, Maps, below, IsPlacedInside, IsInlined, AreInlined, call_through}
 use Rattle.align_laws.specs.Lists.{NetAt, DeviceAt, CallAt, FlatCircuit, over, indexed, pieces, joined_place, past, net_below, device_below, call_below, own_net, own_device, inner_nets, net_in, inner_devices, own_calls, inner_calls, plain, AreFlat, circuit_or, call_or, net_or, device_or, way_or, onward_or, given_of, row_of, placing_of, maps_of, ListLaw}
 use Rattle.align_laws.proofs.Pieces.{append_right, append_cases, piece_at, piece_of, place_pin, place_cases, indexed_at, indexed_of}
-
-pole_through : (f : ℕ → ℕ) (pole : Pole) (r : DeviceRow) → on pole (row_through f r) ≡ f (on pole r)
-pole_through f Source r = refl
-pole_through f Gate r = refl
-pole_through f Drain r = refl
-pole_through f Bulk r = refl
 
 module _ (g f : Netlist) (goes : ℕ → Bool) (flats : ℕ → FlatCircuit) (height : ℕ → ℕ) (good : IsGood g height) (flat : AreFlat g f goes flats) where
   abbrev v : Maps
@@ -128,7 +125,7 @@ module _ (g f : Netlist) (goes : ℕ → Bool) (flats : ℕ → FlatCircuit) (he
           let four = append_right (indexed own_device x.devices) (pieces (inner_devices goes flats x) x.calls) (joined_place (inner_devices goes flats x) x.calls k j) (device_below k to d.0) three in
           let at : slice_get (flats c).devices (over (indexed own_device x.devices) (joined_place (inner_devices goes flats x) x.calls k j)) ≡ Some (device_below k to d.0) =
           subst (λ (z : FlatCircuit). slice_get z.devices (over (indexed own_device x.devices) (joined_place (inner_devices goes flats x) x.calls k j)) ≡ Some (device_below k to d.0)) (sym (flat.each c x is)) four in (
-            subst (λ (r : DeviceRow). IsDevice f c (over (indexed own_device x.devices) (joined_place (inner_devices goes flats x) x.calls k j)) (row_through to r)) d.2
+            subst (λ (r : DeviceRow). IsDevice f c (over (indexed own_device x.devices) (joined_place (inner_devices goes flats x) x.calls k j)) (row_over to r)) d.2
                 (device_there c (over (indexed own_device x.devices) (joined_place (inner_devices goes flats x) x.calls k j)) x (device_below k to d.0) is at),
             ap device_or at ∙ ap (λ (z : Option DeviceAt). below k (device_or z)) (sym d.1),
           );
@@ -314,18 +311,18 @@ module _ (g f : Netlist) (goes : ℕ → Bool) (flats : ℕ → FlatCircuit) (he
         subst (λ (q : ℕ). HasNet f c q) b.2 (inlaid.within b.0 (calls_within h given.circuit m p b.0 own deeper deep b.1))
   ]
 
-  devices_within : (h c j : ℕ) (row : DeviceRow) (pole : Pole) → height c < h → IsDevice f c j row → HasNet f c (on pole row)
-  devices_within zero c j row pole low dev = absurd (let l = low in omega arith)
-  devices_within (suc h) c j row pole low dev = elim (devices_from c j row dev) [
-    | inl given ↦ (own_net_there c (on pole row) (good.within.devices c j row pole given)).0
+  devices_within : (h c j n : ℕ) (row : DeviceRow) → height c < h → IsDevice f c j row → IsListed n (terminal_nets row) → HasNet f c n
+  devices_within zero c j n row low dev on = absurd (let l = low in omega arith)
+  devices_within (suc h) c j n row low dev on = elim (devices_from c j row dev) [
+    | inl given ↦ (own_net_there c n (good.within.devices c j n row given on)).0
     | inr (k, given, i, m, own, is, fate, deep, num) ↦
         let inlaid = goes_there c k i given is fate in
         let there = inlaid.device m own deep in
-        let one : row_through i.net own ≡ row = one_row f c j (row_through i.net own) row (subst (λ (n : ℕ). IsDevice f c n (row_through i.net own)) num there.0) dev in
+        let one : row_over i.net own ≡ row = one_row f c j (row_over i.net own) row (subst (λ (n : ℕ). IsDevice f c n (row_over i.net own)) num there.0) dev in
         let lower = good.lower c k given is in
         let deeper : height given.circuit < h = let a = low in omega arith in
-        let e : i.net (on pole own) ≡ on pole row = sym (pole_through i.net pole own) ∙ ap (on pole) one in
-        subst (λ (q : ℕ). HasNet f c q) e (inlaid.within (on pole own) (devices_within h given.circuit m own pole deeper deep))
+        let b = terminal_over i.net own n (subst (λ (r : DeviceRow). IsListed n (terminal_nets r)) (sym one) on) in
+        subst (λ (q : ℕ). HasNet f c q) (sym b.2) (inlaid.within b.0 (devices_within h given.circuit m b.0 own deeper deep b.1))
   ]
 
   pub are_inlined : AreInlined g f v height
@@ -336,7 +333,7 @@ module _ (g f : Netlist) (goes : ℕ → Bool) (flats : ℕ → FlatCircuit) (he
     flat_within = record {
       pins = λ c i n pin. (own_net_there c n (good.within.pins c i n ((pins_same c i n).1 pin))).0;
       calls = λ c k p n row call net. calls_within (suc (height c)) c k p n row (omega arith) call net;
-      devices = λ c j row pole dev. devices_within (suc (height c)) c j row pole (omega arith) dev;
+      devices = λ c j n row dev on. devices_within (suc (height c)) c j n row (omega arith) dev on;
     };
   }
 

@@ -8,15 +8,18 @@ use Rattle.std.proofs.lemmas.List.{map-append}
 use Rattle.std.proofs.lemmas.Simd.{map-map}
 use Rattle.std.proofs.lemmas.Option.{none-some, same_Some, slice_get_past}
 use Rattle.std.proofs.lemmas.Bool.Decides.{Decides-ltb, not_from_Decides}
-use Rattle.plain_netlist.specs.Netlist.{Pole, Source, Gate, Drain, Bulk, on, DeviceRow, CallRow, Circuit, Netlist, IsCircuit, IsCall, IsPin, Slot}
-use Rattle.plain_netlist.specs.Normal.{terminal_nets, AreNumbered}
+use Rattle.plain_netlist.specs.Netlist.{DeviceRow, CallRow, Circuit, Netlist, IsCircuit, IsCall, IsPin, Slot}
+use Rattle.plain_netlist.specs.Devices.{terminal_nets, row_over}
+use Rattle.plain_netlist.specs.Normal.{AreNumbered}
+use Rattle.plain_netlist.proofs.Members.{position}
+use Rattle.plain_netlist.proofs.Rows.{terminal_nets_over, equal_over, over_equal, over_where}
 use Rattle.plain_netlist.specs.Sound.{IsGood, IsCallPath, IsCalledFrom, HasDevices}
 use Rattle.plain_netlist.proofs.Heights.{goes_down}
-use Rattle.align_laws.specs.Flat.{AreInlined, row_through}
+use Rattle.align_laws.specs.Flat.{AreInlined}
 use Rattle.align_laws.specs.Lists.{FlatCircuit, over, pieces, net_at_pin, given_of, plain, maps_of}
 use Rattle.align_laws.specs.Cut.{Alignment, CutCall, held_pin, held_pins, cut_row, cut_calls, cut}
 use Rattle.align_laws.specs.Aligned.{IsAlignedBy, OneAlignedLaw, AllFlattenedLaw}
-use Rattle.align_laws.proofs.Appear.{flat_in, terminal_at, old_nets, kept_calls, old, cut_kept, appear, given_at, held_there, call_pin, all_held}
+use Rattle.align_laws.proofs.Appear.{flat_in, named, old_nets, kept_calls, old, cut_kept, appear, given_at, held_there, call_pin, all_held}
 use Rattle.align_laws.proofs.CutList.{given_is, held_of, cut_is}
 use Rattle.align_laws.proofs.FlatGood.{flat_is_good}
 use Rattle.align_laws.proofs.Kept.{MayGo, may_go}
@@ -24,7 +27,7 @@ use Rattle.align_laws.proofs.Listed.{listed}
 use Rattle.align_laws.proofs.Origins.{from_one, own_from, net_name, named_from}
 use Rattle.align_laws.proofs.Pieces.{append_right}
 use Rattle.align_laws.proofs.Renumbered.{numbered_has, renumbered}
-use Rattle.align_laws.proofs.SameViews.{same_at, keep_from, left_from, right_from, devices_seen, calls_seen, held_to, pole_seen, reach_by}
+use Rattle.align_laws.proofs.SameViews.{same_at, keep_from, left_from, right_from, devices_seen, calls_seen, held_to, reach_by}
 use Rattle.align_laws.proofs.Unique.{pieces_same}
 use Rattle.align_laws.proofs.Views.{Seen, seen, SeenCall, seen_call, keep, IsIdle, map_same_at}
 
@@ -60,18 +63,8 @@ flats_matched h k f g o p (x ∷ xs) (y ∷ ys) e each =
     ∙ (ap₂ (λ (us vs : List Slot). us ++ vs) (each 0 x y refl refl head) (flats_matched h k f g o p xs ys tail (λ i u w a b q. each (suc i) u w a b q))
     ∙ sym (map-append p (g y) (flat_map g ys)))
 
-seen_nets : Seen → List Slot
-seen_nets r = r.drain ∷ r.gate ∷ r.source ∷ r.bulk ∷ []
-
 terminals_seen : (o p : ℕ → Slot) (r s : DeviceRow) → seen o r ≡ seen p s → map o (terminal_nets r) ≡ map p (terminal_nets s)
-terminals_seen o p r s e = ap (λ (x : Seen). x.drain ∷ x.gate ∷ x.source ∷ x.bulk ∷ []) e
-
-rows_same : (f h : ℕ → ℕ) (r s : DeviceRow) → r.class ≡ s.class → r.length ≡ s.length → r.width ≡ s.width → ((pole : Pole) → f (on pole r) ≡ h (on pole s)) → row_through f r ≡ row_through h s
-rows_same f h r s c l w e =
-    ap₂ (λ (x : List ℕ) (y : ℕ). let d : DeviceRow = record { class = x; length = y; width = r.width; source = f r.source; gate = f r.gate; drain = f r.drain; bulk = f r.bulk } in d) c l
-    ∙ (ap₂ (λ (y x : ℕ). let d : DeviceRow = record { class = s.class; length = s.length; width = y; source = x; gate = f r.gate; drain = f r.drain; bulk = f r.bulk } in d) w (e Source)
-    ∙ (ap₂ (λ (x y : ℕ). let d : DeviceRow = record { class = s.class; length = s.length; width = s.width; source = h s.source; gate = x; drain = y; bulk = f r.bulk } in d) (e Gate) (e Drain)
-    ∙ ap (λ (x : ℕ). let d : DeviceRow = record { class = s.class; length = s.length; width = s.width; source = h s.source; gate = h s.gate; drain = h s.drain; bulk = x } in d) (e Bulk)))
+terminals_seen o p r s e = sym (terminal_nets_over o r) ∙ (ap (λ (x : Seen). terminal_nets x) e ∙ terminal_nets_over p s)
 
 module _ (g : Netlist) (kept : ℕ → Bool) (height : ℕ → ℕ) (good : IsGood g height) (R : ℕ → Type 0) (down : (c k : ℕ) (row : CallRow) → R c → IsCall g c k row → R row.circuit)
     (o : Netlist) (v : Alignment) (goes : ℕ → Bool) (a : IsAlignedBy goes g o v) (may : MayGo g kept goes) (v_kept : (c : ℕ) → v.kept c ≡ kept c)
@@ -207,14 +200,14 @@ module _ (g : Netlist) (kept : ℕ → Bool) (height : ℕ → ℕ) (good : IsGo
     -- the places of what both cut circuits name
     places : map (L c) (old a.flat v c) ≡ map (S c) (old b.flat w c)
     places =
-        map-append (L c) (held_pins a.flat v c) (flat_map terminal_nets (given_of a.flat c).devices ++ flat_map (old_nets a.flat v) (kept_calls a.flat v c))
+        map-append (L c) (held_pins a.flat v c) (flat_map named (given_of a.flat c).devices ++ flat_map (old_nets a.flat v) (kept_calls a.flat v c))
         ∙ (ap₂ (λ (us vs : List Slot). us ++ vs) (map_same_at (L c) (S c) (held_pins a.flat v c) pin_place ∙ ap (map (S c)) (pins_same c x r k is))
-        (map-append (L c) (flat_map terminal_nets (given_of a.flat c).devices) (flat_map (old_nets a.flat v) (kept_calls a.flat v c))
+        (map-append (L c) (flat_map named (given_of a.flat c).devices) (flat_map (old_nets a.flat v) (kept_calls a.flat v c))
         ∙ (ap₂ (λ (us vs : List Slot). us ++ vs)
-        (flats_matched (seen (L c)) (seen (S c)) terminal_nets terminal_nets (L c) (S c) (given_of a.flat c).devices (given_of b.flat c).devices devices_matched (λ i d e at there q. terminals_seen (L c) (S c) d e q))
+        (flats_matched (seen (L c)) (seen (S c)) named named (L c) (S c) (given_of a.flat c).devices (given_of b.flat c).devices devices_matched (λ i d e at there q. terminals_seen (L c) (S c) d e q))
         (flats_matched (seen_call (L c)) (seen_call (S c)) (old_nets a.flat v) (old_nets b.flat w) (L c) (S c) (kept_calls a.flat v c) (kept_calls b.flat w c) calls_matched call_places)
-        ∙ sym (map-append (S c) (flat_map terminal_nets (given_of b.flat c).devices) (flat_map (old_nets b.flat w) (kept_calls b.flat w c)))))
-        ∙ sym (map-append (S c) (held_pins b.flat w c) (flat_map terminal_nets (given_of b.flat c).devices ++ flat_map (old_nets b.flat w) (kept_calls b.flat w c))))
+        ∙ sym (map-append (S c) (flat_map named (given_of b.flat c).devices) (flat_map (old_nets b.flat w) (kept_calls b.flat w c)))))
+        ∙ sym (map-append (S c) (held_pins b.flat w c) (flat_map named (given_of b.flat c).devices ++ flat_map (old_nets b.flat w) (kept_calls b.flat w c))))
       where
         call_places : (i : ℕ) (row also : CallRow) → slice_get (kept_calls a.flat v c) i ≡ Some row → slice_get (kept_calls b.flat w c) i ≡ Some also → seen_call (L c) row ≡ seen_call (S c) also
             → map (L c) (old_nets a.flat v row) ≡ map (S c) (old_nets b.flat w also)
@@ -288,19 +281,20 @@ module _ (g : Netlist) (kept : ℕ → Bool) (height : ℕ → ℕ) (good : IsGo
     pins_new : map (v.new c) (held_pins a.flat v c) ≡ map (w.new c) (held_pins b.flat w c)
     pins_new =
         map_same_at (v.new c) (w.new c) (held_pins a.flat v c) (λ i n at.
-        let here : slice_get (old a.flat v c) i ≡ Some n = get_left (held_pins a.flat v c) (flat_map terminal_nets (given_of a.flat c).devices ++ flat_map (old_nets a.flat v) (kept_calls a.flat v c)) i n at in
+        let here : slice_get (old a.flat v c) i ≡ Some n = get_left (held_pins a.flat v c) (flat_map named (given_of a.flat c).devices ++ flat_map (old_nets a.flat v) (kept_calls a.flat v c)) i n at in
         let there : slice_get (held_pins b.flat w c) i ≡ Some n = subst (λ (ns : List ℕ). slice_get ns i ≡ Some n) (pins_same c x r k is) at in
-        one.1 i n n here (get_left (held_pins b.flat w c) (flat_map terminal_nets (given_of b.flat c).devices ++ flat_map (old_nets b.flat w) (kept_calls b.flat w c)) i n there))
+        one.1 i n n here (get_left (held_pins b.flat w c) (flat_map named (given_of b.flat c).devices ++ flat_map (old_nets b.flat w) (kept_calls b.flat w c)) i n there))
         ∙ ap (map (w.new c)) (pins_same c x r k is)
 
-    devices_new : map (row_through (v.new c)) (given_of a.flat c).devices ≡ map (row_through (w.new c)) (given_of b.flat c).devices
-    devices_new = maps_matched (seen (L c)) (seen (S c)) (row_through (v.new c)) (row_through (w.new c)) (given_of a.flat c).devices (given_of b.flat c).devices devices_matched (λ j d e at there q.
-        rows_same (v.new c) (w.new c) d e (ap (λ (z : Seen). z.class) q) (ap (λ (z : Seen). z.length) q) (ap (λ (z : Seen). z.width) q) (λ pole.
-        let t = terminal_at d pole in
-        let i = flat_in terminal_nets (given_of a.flat c).devices j t.0 d (on pole d) at t.1 in
-        let here = append_right (held_pins a.flat v c) (flat_map terminal_nets (given_of a.flat c).devices ++ flat_map (old_nets a.flat v) (kept_calls a.flat v c)) i.0 (on pole d)
-        (get_left (flat_map terminal_nets (given_of a.flat c).devices) (flat_map (old_nets a.flat v) (kept_calls a.flat v c)) i.0 (on pole d) i.1) in
-        new_same (over (held_pins a.flat v c) i.0) (on pole d) (on pole e) here ((b.cut_down.held c (on pole e) right_kept).1 (inl (j, e, pole, (given_of b.flat c, right_at, there), refl))) (pole_seen (L c) (S c) d e q pole)))
+    devices_new : map (row_over (v.new c)) (given_of a.flat c).devices ≡ map (row_over (w.new c)) (given_of b.flat c).devices
+    devices_new = maps_matched (seen (L c)) (seen (S c)) (row_over (v.new c)) (row_over (w.new c)) (given_of a.flat c).devices (given_of b.flat c).devices devices_matched (λ j d e at there q.
+        over_equal (v.new c) (w.new c) d e (over_where (λ n m. L c n ≡ S c m) (λ n m. v.new c n ≡ w.new c m) d e (λ n m on other same_place.
+        let t = position (named d) n on in
+        let i = flat_in named (given_of a.flat c).devices j t.0 d n at t.1 in
+        let here = append_right (held_pins a.flat v c) (flat_map named (given_of a.flat c).devices ++ flat_map (old_nets a.flat v) (kept_calls a.flat v c)) i.0 n
+        (get_left (flat_map named (given_of a.flat c).devices) (flat_map (old_nets a.flat v) (kept_calls a.flat v c)) i.0 n i.1) in
+        new_same (over (held_pins a.flat v c) i.0) n m here ((b.cut_down.held c m right_kept).1 (inl (j, e, (given_of b.flat c, right_at, there), other))) same_place)
+        (equal_over (L c) (S c) d e q)))
 
     module _ (number_same : (d : ℕ) → kept d ≡ true → v.number d ≡ w.number d) where
       row_new : (i : ℕ) (row also : CallRow) → slice_get (kept_calls a.flat v c) i ≡ Some row → slice_get (kept_calls b.flat w c) i ≡ Some also → seen_call (L c) row ≡ seen_call (S c) also
@@ -316,14 +310,14 @@ module _ (g : Netlist) (kept : ℕ → Bool) (height : ℕ → ℕ) (good : IsGo
               let net = net_at_pin row.nets (λ z. 0) n in
               let other = net_at_pin also.nets (λ z. 0) n in
               let first = flat_in (old_nets a.flat v) (kept_calls a.flat v c) i q row net at (map_to (λ z. net_at_pin row.nets (λ y. 0) z) (held_pins a.flat v row.circuit) q n h) in
-              let here = append_right (held_pins a.flat v c) (flat_map terminal_nets (given_of a.flat c).devices ++ flat_map (old_nets a.flat v) (kept_calls a.flat v c)) (over (flat_map terminal_nets (given_of a.flat c).devices) first.0) net
-              (append_right (flat_map terminal_nets (given_of a.flat c).devices) (flat_map (old_nets a.flat v) (kept_calls a.flat v c)) first.0 net first.1) in
+              let here = append_right (held_pins a.flat v c) (flat_map named (given_of a.flat c).devices ++ flat_map (old_nets a.flat v) (kept_calls a.flat v c)) (over (flat_map named (given_of a.flat c).devices) first.0) net
+              (append_right (flat_map named (given_of a.flat c).devices) (flat_map (old_nets a.flat v) (kept_calls a.flat v c)) first.0 net first.1) in
               let on_right : slice_get (held_pins b.flat w also.circuit) q ≡ Some n = subst (λ (ns : List ℕ). slice_get ns q ≡ Some n) (pins_called row also m) h in
               let second = flat_in (old_nets b.flat w) (kept_calls b.flat w c) i q also other there (map_to (λ z. net_at_pin also.nets (λ y. 0) z) (held_pins b.flat w also.circuit) q n on_right) in
-              let yonder = append_right (held_pins b.flat w c) (flat_map terminal_nets (given_of b.flat c).devices ++ flat_map (old_nets b.flat w) (kept_calls b.flat w c)) (over (flat_map terminal_nets (given_of b.flat c).devices) second.0) other
-              (append_right (flat_map terminal_nets (given_of b.flat c).devices) (flat_map (old_nets b.flat w) (kept_calls b.flat w c)) second.0 other second.1) in
-              new_same (over (held_pins a.flat v c) (over (flat_map terminal_nets (given_of a.flat c).devices) first.0)) net other here
-              (right_held (over (held_pins b.flat w c) (over (flat_map terminal_nets (given_of b.flat c).devices) second.0)) other yonder) (net_place row also m q n h)
+              let yonder = append_right (held_pins b.flat w c) (flat_map named (given_of b.flat c).devices ++ flat_map (old_nets b.flat w) (kept_calls b.flat w c)) (over (flat_map named (given_of b.flat c).devices) second.0) other
+              (append_right (flat_map named (given_of b.flat c).devices) (flat_map (old_nets b.flat w) (kept_calls b.flat w c)) second.0 other second.1) in
+              new_same (over (held_pins a.flat v c) (over (flat_map named (given_of a.flat c).devices) first.0)) net other here
+              (right_held (over (held_pins b.flat w c) (over (flat_map named (given_of b.flat c).devices) second.0)) other yonder) (net_place row also m q n h)
 
       calls_new : map (λ (z : CutCall). z.row) (cut_calls a.flat v c) ≡ map (λ (z : CutCall). z.row) (cut_calls b.flat w c)
       calls_new =
@@ -342,7 +336,7 @@ module _ (g : Netlist) (kept : ℕ → Bool) (height : ℕ → ℕ) (good : IsGo
             name = n;
             nets = ns;
             pins = map (v.new c) (held_pins a.flat v c);
-            devices = map (row_through (v.new c)) (given_of a.flat c).devices;
+            devices = map (row_over (v.new c)) (given_of a.flat c).devices;
             calls = map (λ (u : CutCall). u.row) (cut_calls a.flat v c);
           } in z) name_same names_same
           ∙ (ap₂ (λ (ps : List ℕ) (ds : List DeviceRow). let z : Circuit = record {
@@ -356,7 +350,7 @@ module _ (g : Netlist) (kept : ℕ → Bool) (height : ℕ → ℕ) (good : IsGo
             name = (given_of b.flat c).name;
             nets = w.names c;
             pins = map (w.new c) (held_pins b.flat w c);
-            devices = map (row_through (w.new c)) (given_of b.flat c).devices;
+            devices = map (row_over (w.new c)) (given_of b.flat c).devices;
             calls = rs;
           } in z) calls_new)
 

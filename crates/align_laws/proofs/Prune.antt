@@ -1,8 +1,10 @@
 -- Dropping as a relation between two netlists: nets that hold nothing go, with their pins, and calls of circuits without devices; what
 -- stays has new numbers. Cut lists are such.
 use Rattle.std.proofs.Common.{◌≡◌, ◌↔◌, ℕ, Bool, true, false, List, [], ◌∷◌, Option, Some, None, slice_get, refl, ap}
-use Rattle.plain_netlist.specs.Netlist.{Pole, on, DeviceRow, CallRow, Netlist, IsCall, IsDevice, IsPin, Slot, InOneNet, HasDevice, slot, IsOnPin}
-use Rattle.align_laws.specs.Flat.{below, IsRowImage, row_through}
+use Rattle.plain_netlist.specs.Netlist.{DeviceRow, CallRow, Netlist, IsCall, IsDevice, IsPin, Slot, InOneNet, HasDevice, slot, IsOnPin}
+use Rattle.plain_netlist.specs.Lists.{IsListed}
+use Rattle.plain_netlist.specs.Devices.{terminal_nets, row_over, IsRowOver}
+use Rattle.align_laws.specs.Flat.{below}
 use Rattle.align_laws.specs.Lists.{row_of}
 use Rattle.align_laws.specs.Cut.{Alignment, CutCall, cut_calls, cut_number, cut_path, cut_slot}
 
@@ -30,9 +32,9 @@ ArePinsBack f o v c row other = (q outer inner : ℕ) → slice_get other.nets q
 -- circuit c with its dropped nets, pins and calls gone, under new numbers
 pub record IsPruned (f o : Netlist) (v : Cuts) (c : ℕ) : Type 0 where
   pub target : (k : ℕ) (row : CallRow) → IsCall f c k row → v.target c k ≡ row.circuit
-  pub device : (j : ℕ) (row : DeviceRow) → IsDevice f c j row → IsDevice o (v.number c) j (row_through (v.net c) row)
+  pub device : (j : ℕ) (row : DeviceRow) → IsDevice f c j row → IsDevice o (v.number c) j (row_over (v.net c) row)
   pub device_back : (j : ℕ) (other : DeviceRow) → IsDevice o (v.number c) j other → (row : DeviceRow) × IsDevice f c j row
-  pub terminal : (j : ℕ) (row : DeviceRow) (pole : Pole) → IsDevice f c j row → v.held c (on pole row) ≡ true
+  pub terminal : (j n : ℕ) (row : DeviceRow) → IsDevice f c j row → IsListed n (terminal_nets row) → v.held c n ≡ true
   pub call : (k : ℕ) (row : CallRow) → IsCall f c k row → v.kept row.circuit ≡ true
       → (other : CallRow) × IsCall o (v.number c) (v.call c k) other × (other.circuit ≡ v.number row.circuit) × (v.call_back c (v.call c k) ≡ k) × ArePinsKept f o v c row other
   -- only circuits with no device in or below them go
@@ -66,12 +68,12 @@ new_path v c (k ∷ ks) = v.call c k ∷ new_path v (v.target c k) ks
 -- held slots are on one net, or on a pin, exactly where their images are; devices go one to one and onto, with class, sizes and terminals
 pub record IsPrunedExpansion (f o : Netlist) (v : Cuts) (c : ℕ) : Type 0 where
   -- terminals stand on held nets
-  pub terminal : (path : List ℕ) (j : ℕ) (row : DeviceRow) (pole : Pole) → HasDevice f c path j row → IsHeldSlot f v c path (on pole row)
+  pub terminal : (path : List ℕ) (j n : ℕ) (row : DeviceRow) → HasDevice f c path j row → IsListed n (terminal_nets row) → IsHeldSlot f v c path n
   pub nets : (a b : Slot) → IsHeldSlot f v c a.path a.net → IsHeldSlot f v c b.path b.net
       → InOneNet f c a b ↔ InOneNet o (v.number c) (new_slot v c a.path a.net) (new_slot v c b.path b.net)
   pub pins : (a : Slot) → IsHeldSlot f v c a.path a.net → IsOnPin f c a ↔ IsOnPin o (v.number c) (new_slot v c a.path a.net)
   pub device : (path : List ℕ) (j : ℕ) (row : DeviceRow) → HasDevice f c path j row
-      → (other : DeviceRow) × HasDevice o (v.number c) (new_path v c path) j other × IsRowImage (λ a b. new_slot v c path a ≡ slot (new_path v c path) b) row other
+      → (other : DeviceRow) × HasDevice o (v.number c) (new_path v c path) j other × IsRowOver (λ a b. new_slot v c path a ≡ slot (new_path v c path) b) row other
   pub back : (es : List ℕ) (j : ℕ) (row : DeviceRow) → HasDevice o (v.number c) es j row → (path : List ℕ) × (own : DeviceRow) × HasDevice f c path j own × (new_path v c path ≡ es)
   pub one : (p q : List ℕ) (i j : ℕ) (a b : DeviceRow) → HasDevice f c p i a → HasDevice f c q j b → new_path v c p ≡ new_path v c q → p ≡ q
 

@@ -3,8 +3,11 @@ use Rattle.std.proofs.Common.{◌≡◌, ◌⊎◌, inl, inr, ℕ, zero, suc, �
 use Rattle.base_laws.proofs.Items.{map_to, map_from}
 use Rattle.std.proofs.lemmas.Bool.{cases_Bool}
 use Rattle.std.proofs.lemmas.Option.{none-some, same_Some}
-use Rattle.plain_netlist.specs.Netlist.{Pole, Source, Gate, Drain, Bulk, on, DeviceRow, CallRow, Circuit, Netlist, IsCircuit, IsCall, IsDevice, IsPin, HasNet, Slot, slot}
+use Rattle.plain_netlist.specs.Netlist.{DeviceRow, CallRow, Circuit, Netlist, IsCircuit, IsCall, IsDevice, IsPin, HasNet, Slot, slot}
 use Rattle.plain_netlist.specs.Sound.{IsGood, IsCallPath}
+use Rattle.plain_netlist.specs.Lists.{IsListed}
+use Rattle.plain_netlist.specs.Devices.{terminal_nets}
+use Rattle.plain_netlist.proofs.Rows.{over_terminal, terminal_over}
 use Rattle.align_laws.specs.Flat.{AreInlined}
 use Rattle.align_laws.specs.Lists.{pieces, plain, maps_of}
 use Rattle.align_laws.specs.Cut.{Alignment}
@@ -44,11 +47,8 @@ keep_from kept (r ∷ rs) e row at = elim (cases_Bool (kept r.circuit)) [
     first zero h at more = (0, at, subst (λ (x : CallRow). kept x.circuit ≡ true) (same_Some _ _ at) h)
     first (suc m) h at more = let rest = more m at in (suc rest.0, rest.1, rest.2)
 
-pub pole_seen : (o p : ℕ → Slot) (r s : DeviceRow) → seen o r ≡ seen p s → (pole : Pole) → o (on pole r) ≡ p (on pole s)
-pole_seen o p r s e Source = ap (λ (x : Seen). x.source) e
-pole_seen o p r s e Gate = ap (λ (x : Seen). x.gate) e
-pole_seen o p r s e Drain = ap (λ (x : Seen). x.drain) e
-pole_seen o p r s e Bulk = ap (λ (x : Seen). x.bulk) e
+pub terminal_seen : (o p : ℕ → Slot) (r s : DeviceRow) → seen o r ≡ seen p s → (n : ℕ) → IsListed n (terminal_nets s) → (m : ℕ) × IsListed m (terminal_nets r) × (p n ≡ o m)
+terminal_seen o p r s e n on = terminal_over o r (p n) (subst (λ (x : Seen). IsListed (p n) (terminal_nets x)) (sym e) (over_terminal p s n on))
 
 nothing : {A B : Type 0} (b : Bool) (h : A → B) → cond b (map h []) [] ≡ []
 nothing true h = refl
@@ -163,11 +163,12 @@ module _ (g : Netlist) (kept : ℕ → Bool) (height : ℕ → ℕ) (good : IsGo
       let has = good.within.pins c n n pin in
       let there : IsCircuit b.flat c (plain (b.flats c)) = b.flattened.there c x is in
       elim ((a.cut_down.held c n (v_kept c ∙ k)).0 h) [
-        | inl (j, row, pole, device, net) ↦
+        | inl (j, row, device, on) ↦
             let s = same_at (seen (left_from c)) (seen (right_from c)) (plain (a.flats c)).devices (plain (b.flats c)).devices (devices_seen c x r is) j row (flat_device c j row device) in
             let other : IsDevice b.flat c j s.0 = (plain (b.flats c), there, s.1) in
-            let place : right_from c (on pole s.0) ≡ left_from c n = pole_seen (right_from c) (left_from c) s.0 row s.2 pole ∙ ap (left_from c) net in
-            (b.cut_down.held c n (w_kept c ∙ k)).1 (inl (j, s.0, pole, other, own_right c n (on pole s.0) has (right_are.flat_within.devices c j s.0 pole other) place))
+            let t = terminal_seen (right_from c) (left_from c) s.0 row s.2 n on in
+            let same_net : t.0 ≡ n = own_right c n t.0 has (right_are.flat_within.devices c j t.0 s.0 other t.1) (sym t.2) in
+            (b.cut_down.held c n (w_kept c ∙ k)).1 (inl (j, s.0, other, subst (λ (z : ℕ). IsListed z (terminal_nets s.0)) same_net t.1))
         | inr (e, row, q, inner, call, t, net, under, held) ↦
             let e_kept = keep_at kept (plain (a.flats c)).calls e row (flat_call c e row call) (sym (v_kept row.circuit) ∙ t) in
             let s = same_at (seen_call (left_from c)) (seen_call (right_from c)) (keep kept (plain (a.flats c)).calls) (keep kept (plain (b.flats c)).calls) (calls_seen c x r is) e_kept.0 row e_kept.1 in

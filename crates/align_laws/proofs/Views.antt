@@ -1,11 +1,14 @@
 -- The devices and kept calls of a flat circuit, with their nets as the places that these are from: a recursion over the calls alone.
-use Rattle.std.proofs.Common.{◌≡◌, inl, inr, ℕ, suc, Bool, true, false, cond, List, [], ◌∷◌, ◌++◌, map, Some, slice_get, refl, ◌∙◌, ap, ap₂}
+use Rattle.std.proofs.Common.{◌≡◌, inl, inr, ℕ, suc, Bool, true, false, cond, List, [], ◌∷◌, ◌++◌, map, Some, slice_get, refl, sym, ◌∙◌, ap, ap₂}
 use Rattle.base_laws.proofs.Items.{map_to}
 use Rattle.base_laws.proofs.Tests.{not_both}
 use Rattle.std.proofs.lemmas.List.{map-append}
-use Rattle.plain_netlist.specs.Netlist.{Pole, Source, Gate, Drain, Bulk, on, DeviceRow, CallRow, Circuit, Netlist, IsCircuit, IsCall, IsDevice, Slot, slot}
+use Rattle.plain_netlist.specs.Netlist.{DeviceRow, CallRow, Circuit, Netlist, IsCircuit, IsCall, IsDevice, Slot, slot}
 use Rattle.plain_netlist.specs.Sound.{IsGood, HasDevices, IsCalledFrom}
-use Rattle.align_laws.specs.Flat.{AreInlined, row_through, call_through}
+use Rattle.plain_netlist.specs.Lists.{IsListed}
+use Rattle.plain_netlist.specs.Devices.{Row, terminal_nets, row_over}
+use Rattle.plain_netlist.proofs.Rows.{row_over_twice, row_over_agrees}
+use Rattle.align_laws.specs.Flat.{AreInlined, call_through}
 use Rattle.align_laws.specs.Lists.{DeviceAt, CallAt, FlatCircuit, indexed, pieces, device_below, call_below, own_device, inner_devices, own_calls, inner_calls, net_in, plain, AreFlat, maps_of}
 use Rattle.align_laws.specs.Words.{IsWay}
 use Rattle.align_laws.proofs.InnerCalls.{inner_calls as calls_inside}
@@ -15,20 +18,14 @@ use Rattle.align_laws.proofs.Origins.{enter, from, own_from, brought_from}
 use Rattle.align_laws.proofs.Unique.{pieces_same}
 
 -- a device with its nets as places
-pub record Seen : Type 0 where
-  pub class : List ℕ
-  pub length : ℕ
-  pub width : ℕ
-  pub source : Slot
-  pub gate : Slot
-  pub drain : Slot
-  pub bulk : Slot
+abbrev pub Seen : Type 0
+Seen = Row Slot
 
 abbrev pub seen : (ℕ → Slot) → DeviceRow → Seen
-seen o r = record { class = r.class; length = r.length; width = r.width; source = o r.source; gate = o r.gate; drain = o r.drain; bulk = o r.bulk }
+seen o r = row_over o r
 
 abbrev pub seen_on : (Slot → Slot) → Seen → Seen
-seen_on e r = record { class = r.class; length = r.length; width = r.width; source = e r.source; gate = e r.gate; drain = e r.drain; bulk = e r.bulk }
+seen_on e r = row_over e r
 
 -- and a call
 pub record SeenCall : Type 0 where
@@ -80,17 +77,10 @@ empty [] h = refl
 empty (x ∷ xs) h = absurd (h 0 x refl)
 
 -- devices and calls put through a map and seen are seen and put through another
-seen_same : (o : ℕ → Slot) (e : Slot → Slot) (p : ℕ → Slot) (to : ℕ → ℕ) (r : DeviceRow) → ((pole : Pole) → o (to (on pole r)) ≡ e (p (on pole r))) → seen o (row_through to r) ≡ seen_on e (seen p r)
-seen_same o e p to r h =
-    ap₂ (λ (s g : Slot). let x : Seen = record { class = r.class; length = r.length; width = r.width; source = s; gate = g; drain = o (to r.drain); bulk = o (to r.bulk) } in x) (h Source) (h Gate)
-    ∙ ap₂ (λ (d b : Slot). let x : Seen = record { class = r.class; length = r.length; width = r.width; source = e (p r.source); gate = e (p r.gate); drain = d; bulk = b } in x) (h Drain) (h Bulk)
+seen_same : (o : ℕ → Slot) (e : Slot → Slot) (p : ℕ → Slot) (to : ℕ → ℕ) (r : DeviceRow) → ((n : ℕ) → IsListed n (terminal_nets r) → o (to n) ≡ e (p n)) → seen o (row_over to r) ≡ seen_on e (seen p r)
+seen_same o e p to r h = row_over_twice o to r ∙ (row_over_agrees (λ n. o (to n)) (λ n. e (p n)) r h ∙ sym (row_over_twice e p r))
 
-seen_own : (o p : ℕ → Slot) (r : DeviceRow) → ((pole : Pole) → o (on pole r) ≡ p (on pole r)) → seen o r ≡ seen p r
-seen_own o p r h =
-    ap₂ (λ (s g : Slot). let x : Seen = record { class = r.class; length = r.length; width = r.width; source = s; gate = g; drain = o r.drain; bulk = o r.bulk } in x) (h Source) (h Gate)
-    ∙ ap₂ (λ (d b : Slot). let x : Seen = record { class = r.class; length = r.length; width = r.width; source = p r.source; gate = p r.gate; drain = d; bulk = b } in x) (h Drain) (h Bulk)
-
-inner_rows : (o : ℕ → Slot) (e : Slot → Slot) (p : ℕ → Slot) (to : ℕ → ℕ) (k : ℕ) (ds : List DeviceAt) → ((j : ℕ) (d : DeviceAt) → slice_get ds j ≡ Some d → (pole : Pole) → o (to (on pole d.row)) ≡ e (p (on pole d.row)))
+inner_rows : (o : ℕ → Slot) (e : Slot → Slot) (p : ℕ → Slot) (to : ℕ → ℕ) (k : ℕ) (ds : List DeviceAt) → ((j : ℕ) (d : DeviceAt) → slice_get ds j ≡ Some d → (n : ℕ) → IsListed n (terminal_nets d.row) → o (to n) ≡ e (p n))
     → map (seen o) (map (λ (d : DeviceAt). d.row) (map (device_below k to) ds)) ≡ map (seen_on e) (map (seen p) (map (λ (d : DeviceAt). d.row) ds))
 inner_rows o e p to k [] h = refl
 inner_rows o e p to k (d ∷ ds) h = ap₂ (λ (y : Seen) (ys : List Seen). y ∷ ys) (seen_same o e p to d.row (h 0 d refl)) (inner_rows o e p to k ds (λ j x i. h (suc j) x i))
@@ -153,8 +143,8 @@ module _ (g f : Netlist) (goes : ℕ → Bool) (flats : ℕ → FlatCircuit) (he
       known true t =
           let call : IsCall g c k row = (x, is, at) in
           let d = good.called c k row call in
-          inner_rows (origin c) (enter k row) (origin row.circuit) (net_in goes flats x k row) k (flats row.circuit).devices (λ j y h pole.
-          brought_from g f goes flats height good flat c k (on pole y.row) x row is call t (are.flat_within.devices row.circuit j y.row pole (device_there row.circuit j d.0 y d.1 h)))
+          inner_rows (origin c) (enter k row) (origin row.circuit) (net_in goes flats x k row) k (flats row.circuit).devices (λ j y h n on.
+          brought_from g f goes flats height good flat c k n x row is call t (are.flat_within.devices row.circuit j n y.row (device_there row.circuit j d.0 y d.1 h) on))
       known false t = refl
 
   -- the devices of a flat circuit: its own, then those that the flattened calls bring
@@ -167,7 +157,7 @@ module _ (g f : Netlist) (goes : ℕ → Bool) (flats : ℕ → FlatCircuit) (he
       ∙ (ap (map (seen o)) (map-append row_of (indexed own_device x.devices) (pieces (inner_devices goes flats x) x.calls))
       ∙ (map-append (seen o) (map row_of (indexed own_device x.devices)) (map row_of (pieces (inner_devices goes flats x) x.calls))
       ∙ ap₂ (λ (us vs : List Seen). us ++ vs)
-      (ap (map (seen o)) (rows_own own_device x.devices (λ k y. refl)) ∙ map_same_at (seen o) (seen (slot [])) x.devices (λ j row h. seen_own o (slot []) row (λ pole. own_from g f goes flats height good flat c (on pole row) (good.within.devices c j row pole (x, is, h)))))
+      (ap (map (seen o)) (rows_own own_device x.devices (λ k y. refl)) ∙ map_same_at (seen o) (seen (slot [])) x.devices (λ j row h. row_over_agrees o (slot []) row (λ n on. own_from g f goes flats height good flat c n (good.within.devices c j n row (x, is, h) on))))
       (ap (map (seen o)) (map_pieces row_of (inner_devices goes flats x) x.calls)
       ∙ (map_pieces (seen o) (λ k row. map row_of (inner_devices goes flats x k row)) x.calls
       ∙ pieces_same _ _ x.calls (λ k row at. devices_in c k x row is at)))))

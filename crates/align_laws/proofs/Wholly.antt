@@ -1,7 +1,11 @@
 -- Flattening and dropping, one after the other.
 use Rattle.std.proofs.Common.{◌≡◌, ◌↔◌, ℕ, true, List, [], ◌∷◌, sym, ◌∙◌, ap, subst}
-use Rattle.plain_netlist.specs.Netlist.{Pole, on, DeviceRow, Netlist, IsSlot, Slot, InOneNet, HasDevice, IsTerminal, slot, IsOnPin}
-use Rattle.align_laws.specs.Flat.{Maps, IsRowImage, net_image, device_image, AreInlined, IsSameExpansion}
+use Rattle.plain_netlist.specs.Netlist.{DeviceRow, Netlist, IsSlot, Slot, InOneNet, HasDevice, IsTerminal, slot, IsOnPin}
+use Rattle.plain_netlist.specs.Lists.{IsListed}
+use Rattle.plain_netlist.specs.Devices.{terminal_nets, IsRowOver}
+use Rattle.plain_netlist.specs.Flats.{Through}
+use Rattle.plain_netlist.proofs.Rows.{rows_terminal, over_alike, over_wider, over_through}
+use Rattle.align_laws.specs.Flat.{Maps, net_image, device_image, AreInlined, IsSameExpansion}
 use Rattle.align_laws.proofs.Prune.{Cuts, ArePruned, IsHeldSlot, new_slot, new_path, IsPrunedExpansion}
 use Rattle.align_laws.specs.Aligned.{IsKeptExpansion}
 use Rattle.align_laws.proofs.Flatten.{same_expansion}
@@ -21,34 +25,32 @@ module _ (g f o : Netlist) (v : Maps) (w : Cuts) (height : ℕ → ℕ) (flat : 
   second : IsPrunedExpansion f o w c
   second = pruned_expansion f o w cut c kept
 
-  device_slot : (path : List ℕ) (c j : ℕ) (row : DeviceRow) (pole : Pole) → HasDevice g c path j row → IsSlot g c path (on pole row)
-  device_slot [] c j row pole h = flat.within.devices c j row pole h
-  device_slot (k ∷ ks) c j row pole (call, is, h) = (call, is, device_slot ks call.circuit j row pole h)
+  device_slot : (path : List ℕ) (c j n : ℕ) (row : DeviceRow) → HasDevice g c path j row → IsListed n (terminal_nets row) → IsSlot g c path n
+  device_slot [] c j n row h on = flat.within.devices c j n row h on
+  device_slot (k ∷ ks) c j n row (call, is, h) on = (call, is, device_slot ks call.circuit j n row h on)
 
   terminal_slot : (a : Slot) → IsTerminal g c a → IsSlot g c a.path a.net
-  terminal_slot a t = subst (λ (n : ℕ). IsSlot g c a.path n) t.on (device_slot a.path c t.device t.row t.pole t.has)
+  terminal_slot a t = device_slot a.path c t.device a.net t.row t.has t.on
 
   terminal_held : (a : Slot) → IsTerminal g c a → IsHeldSlot f w c (net_image v c a).path (net_image v c a).net
   terminal_held a t =
       let d = first.device a.path t.device t.row t.has in
-      let h = second.terminal (device_image v c a.path t.device).path (device_image v c a.path t.device).net d.0 t.pole d.1 in
-      let at : slot (device_image v c a.path t.device).path (on t.pole d.0) ≡ net_image v c a = sym (d.2.poles t.pole) ∙ ap (λ (n : ℕ). net_image v c (slot a.path n)) t.on in
-      subst (λ (s : Slot). IsHeldSlot f w c s.path s.net) at h
+      let place = device_image v c a.path t.device in
+      let m = rows_terminal (λ n b. net_image v c (slot a.path n) ≡ slot place.path b) t.row d.0 (over_alike (λ n b. net_image v c (slot a.path n) ≡ slot place.path b) t.row d.0 d.2) a.net t.on in
+      subst (λ (s : Slot). IsHeldSlot f w c s.path s.net) (sym m.2) (second.terminal place.path place.net m.0 d.0 d.1 m.1)
 
   each : (path : List ℕ) (j : ℕ) (row : DeviceRow) → HasDevice g c path j row
       → (other : DeviceRow) × HasDevice o (w.number c) (whole_device v w c (slot path j)).path (whole_device v w c (slot path j)).net other
-      × IsRowImage (λ a b. whole_net v w c (slot path a) ≡ slot (whole_device v w c (slot path j)).path b) row other
+      × IsRowOver (λ a b. whole_net v w c (slot path a) ≡ slot (whole_device v w c (slot path j)).path b) row other
   each path j row h =
       let d = first.device path j row h in
-      let e = second.device (device_image v c path j).path (device_image v c path j).net d.0 d.1 in (
+      let e = second.device (device_image v c path j).path (device_image v c path j).net d.0 d.1 in
+      let Mid : ℕ → ℕ → Type 0 = λ a b. net_image v c (slot path a) ≡ slot (device_image v c path j).path b in
+      let Last : ℕ → ℕ → Type 0 = λ a b. new_slot w c (device_image v c path j).path a ≡ slot (new_path w c (device_image v c path j).path) b in (
         e.0,
         e.1,
-        record {
-          class = d.2.class ∙ e.2.class;
-          length = d.2.length ∙ e.2.length;
-          width = d.2.width ∙ e.2.width;
-          poles = λ pole. ap (λ (s : Slot). new_slot w c s.path s.net) (d.2.poles pole) ∙ e.2.poles pole;
-        },
+        over_wider (Through Mid Last) (λ a b. whole_net v w c (slot path a) ≡ slot (whole_device v w c (slot path j)).path b) (λ n m k. ap (λ (s : Slot). new_slot w c s.path s.net) k.1 ∙ k.2) row e.0
+            (over_through Mid Last row d.0 e.0 d.2 e.2),
       )
 
   back : (es : List ℕ) (j : ℕ) (other : DeviceRow) → HasDevice o (w.number c) es j other → (s : Slot) × (row : DeviceRow) × HasDevice g c s.path s.net row × (whole_device v w c s ≡ slot es j)

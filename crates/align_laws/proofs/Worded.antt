@@ -2,7 +2,8 @@
 use Rattle.std.proofs.Common.{◌≡◌, inl, inr, ℕ, zero, suc, ◌<◌, List, [], ◌∷◌, refl, sym, ◌∙◌, ap, subst, arith}
 use Rattle.plain_netlist.proofs.Once.{one_call}
 use Rattle.plain_netlist.specs.Netlist.{DeviceRow, CallRow, Netlist, IsDevice, Slot, HasDevice, slot}
-use Rattle.align_laws.specs.Flat.{CallFate, Goes, Maps, below, step, image, placed_device, device_image, AreInlined, row_through}
+use Rattle.plain_netlist.specs.Devices.{row_over}
+use Rattle.align_laws.specs.Flat.{CallFate, Goes, Maps, below, step, image, placed_device, device_image, AreInlined}
 use Rattle.align_laws.specs.Words.{IsInside, AreDevicesInside, InsideLaw}
 
 module _ (g f : Netlist) (v : Maps) (height : ℕ → ℕ) (are : AreInlined g f v height) where
@@ -42,7 +43,7 @@ module _ (g f : Netlist) (v : Maps) (height : ℕ → ℕ) (are : AreInlined g f
       let one : row ≡ row' = let a = call in let b = call' in one_call g c k row row' a b in
       let r = found ks row'.circuit j own (subst (λ (x : CallRow). IsInside g v x.circuit ks) one inside) h in
       let d = inlaid.device r.0 r.1 r.2 in
-      (i.device r.0, row_through i.net r.1, d.0, d.1 ∙ ap (below k) r.3)
+      (i.device r.0, row_over i.net r.1, d.0, d.1 ∙ ap (below k) r.3)
 
   pub inside : (c : ℕ) → AreDevicesInside g f v c
   inside c = record {

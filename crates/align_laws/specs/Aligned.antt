@@ -7,8 +7,9 @@ use Rattle.plain_netlist.specs.Netlist.{InOneNet, HasDevice, IsTerminal, IsOnPin
 use Rattle.plain_netlist.specs.Normal.{IsNormalCircuit, IsNormalNetlist}
 use Rattle.plain_netlist.specs.Sound.{HasDevices, HasNetTwins, IsCalledFrom, IsGood, IsSoundNetlist}
 use Rattle.plain_netlist.specs.Sound.{NetlistFault, NameClash, ShowsFault}
+use Rattle.plain_netlist.specs.Devices.{IsRowOver}
 use Rattle.plain_netlist.specs.Flats.{Corresponds, expanded}
-use Rattle.align_laws.specs.Flat.{IsRowImage, net_image, device_image}
+use Rattle.align_laws.specs.Flat.{net_image, device_image}
 use Rattle.align_laws.specs.Lists.{FlatCircuit, given_of, maps_of, AreFlat}
 use Rattle.align_laws.specs.Cut.{Alignment, cut, cut_path, cut_slot, AreCut}
 
@@ -57,7 +58,7 @@ pub record IsKeptExpansion (g o : Netlist) (c d : ℕ) (net device : Slot → Sl
   pub each : (path : List ℕ) (j : ℕ) (row : DeviceRow) → HasDevice g c path j row
       → (other : DeviceRow)
       × HasDevice o d (device (slot path j)).path (device (slot path j)).net other
-      × IsRowImage (λ a b. net (slot path a) ≡ slot (device (slot path j)).path b) row other
+      × IsRowOver (λ a b. net (slot path a) ≡ slot (device (slot path j)).path b) row other
   pub back : (es : List ℕ) (j : ℕ) (other : DeviceRow) → HasDevice o d es j other
       → (s : Slot) × (row : DeviceRow) × HasDevice g c s.path s.net row × (device s ≡ slot es j)
   pub one : (s t : Slot) (a b : DeviceRow) → HasDevice g c s.path s.net a

@@ -2,9 +2,11 @@
 -- circuits, under new numbers.
 use Rattle.std.specs.Prelude.{◌≡◌, ◌⊎◌, ◌↔◌, ℕ, Bool, true, cond, List, [], ◌∷◌, map, Some}
 use Rattle.std.specs.Prelude.{slice_get}
-use Rattle.plain_netlist.specs.Netlist.{Pole, on, DeviceRow, CallRow, Circuit, Netlist, IsCircuit}
+use Rattle.plain_netlist.specs.Lists.{IsListed}
+use Rattle.plain_netlist.specs.Devices.{row_over, terminal_nets}
+use Rattle.plain_netlist.specs.Netlist.{DeviceRow, CallRow, Circuit, Netlist, IsCircuit}
 use Rattle.plain_netlist.specs.Netlist.{IsCall, IsDevice, IsPin, Slot, slot}
-use Rattle.align_laws.specs.Flat.{below, row_through}
+use Rattle.align_laws.specs.Flat.{below}
 use Rattle.align_laws.specs.Lists.{pieces, joined_place, net_at_pin, given_of, row_of}
 
 -- how a netlist is aligned: the circuits that are kept and the number of each; of each circuit the
@@ -50,7 +52,7 @@ module _ (f : Netlist) (w : Alignment) where
     name = (given_of f c).name;
     nets = w.names c;
     pins = map (w.new c) (held_pins c);
-    devices = map (row_through (w.new c)) (given_of f c).devices;
+    devices = map (row_over (w.new c)) (given_of f c).devices;
     calls = map (λ (r : CutCall). r.row) (cut_calls c);
   }
 
@@ -69,8 +71,7 @@ module _ (f : Netlist) (w : Alignment) where
 
 -- a device has a terminal on the net
 abbrev pub OnDevice : Netlist → ℕ → ℕ → Type 0
-OnDevice f c n = (j : ℕ) × (row : DeviceRow) × (pole : Pole)
-    × IsDevice f c j row × (on pole row ≡ n)
+OnDevice f c n = (j : ℕ) × (row : DeviceRow) × IsDevice f c j row × IsListed n (terminal_nets row)
 
 -- a call of a kept circuit has a held pin on the net
 abbrev pub OnHeldPin : Netlist → Alignment → ℕ → ℕ → Type 0

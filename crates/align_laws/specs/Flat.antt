@@ -2,7 +2,8 @@
 -- leaves the expansion as it is.
 use Rattle.std.specs.Prelude.{◌≡◌, ◌⊎◌, ◌↔◌, ◌<◌, ℕ, List, [], ◌∷◌, ◌++◌, map, Some, slice_get}
 use Rattle.plain_netlist.specs.Sound.{AreNetsThere}
-use Rattle.plain_netlist.specs.Netlist.{Pole, on, DeviceRow, CallRow, Netlist, IsCall, IsDevice}
+use Rattle.plain_netlist.specs.Devices.{row_over, IsRowOver}
+use Rattle.plain_netlist.specs.Netlist.{DeviceRow, CallRow, Netlist, IsCall, IsDevice}
 use Rattle.plain_netlist.specs.Netlist.{IsPin, HasNet, IsSlot, Slot, slot, InOneNet, HasDevice}
 
 -- where the nets, devices and calls of the called circuit stand in the caller
@@ -26,18 +27,7 @@ pub record Maps : Type 0 where
   pub net_from : ℕ → ℕ → Slot
   pub device_from : ℕ → ℕ → Slot
 
--- a row or a call with its nets put through a map
-abbrev pub row_through : (ℕ → ℕ) → DeviceRow → DeviceRow
-row_through f r = record {
-  class = r.class;
-  length = r.length;
-  width = r.width;
-  source = f r.source;
-  gate = f r.gate;
-  drain = f r.drain;
-  bulk = f r.bulk;
-}
-
+-- a call with its nets put through a map
 abbrev pub call_through : (ℕ → ℕ) → CallRow → CallRow
 call_through f r = record { circuit = r.circuit; nets = map f r.nets }
 
@@ -91,7 +81,7 @@ pub record IsPlacedInside (g f : Netlist) (v : Maps) (c k : ℕ) (row : CallRow)
       ⊎ (v.net_from c (i.net n) ≡ below k (v.net_from row.circuit n))
   pub within : (n : ℕ) → HasNet f row.circuit n → HasNet f c (i.net n)
   pub device : (j : ℕ) (own : DeviceRow) → IsDevice f row.circuit j own
-      → IsDevice f c (i.device j) (row_through i.net own)
+      → IsDevice f c (i.device j) (row_over i.net own)
       × (v.device_from c (i.device j) ≡ below k (v.device_from row.circuit j))
   pub call : (e : ℕ) (own : CallRow) → IsCall f row.circuit e own
       → IsCall f c (i.call e) (call_through i.net own)
@@ -126,13 +116,6 @@ pub record AreInlined (g f : Netlist) (v : Maps) (height : ℕ → ℕ) : Type 0
   pub within : AreNetsThere g
   pub flat_within : AreNetsThere f
 
--- class and sizes as they are, each terminal on the image of its net
-pub record IsRowImage (image : ℕ → ℕ → Type 0) (row other : DeviceRow) : Type 0 where
-  pub class : row.class ≡ other.class
-  pub length : row.length ≡ other.length
-  pub width : row.width ≡ other.width
-  pub poles : (pole : Pole) → image (on pole row) (on pole other)
-
 -- both netlists expand to the same: slots are on one net exactly where their images are, pins are
 -- the same, and devices go one to one and onto, with class, sizes and terminals
 pub record IsSameExpansion (g f : Netlist) (v : Maps) (c : ℕ) : Type 0 where
@@ -142,7 +125,7 @@ pub record IsSameExpansion (g f : Netlist) (v : Maps) (c : ℕ) : Type 0 where
   pub device : (path : List ℕ) (j : ℕ) (row : DeviceRow) → HasDevice g c path j row
       → (other : DeviceRow)
       × HasDevice f c (device_image v c path j).path (device_image v c path j).net other
-      × IsRowImage (λ a b. net_image v c (slot path a)
+      × IsRowOver (λ a b. net_image v c (slot path a)
       ≡ slot (device_image v c path j).path b) row other
   pub back : (es : List ℕ) (j : ℕ) (row : DeviceRow) → HasDevice f c es j row
       → (s : Slot) × (own : DeviceRow) × HasDevice g c s.path s.net own

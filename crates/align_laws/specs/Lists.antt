@@ -2,9 +2,10 @@
 -- the place that it is from.
 use Rattle.std.specs.Prelude.{◌≡◌, ℕ, zero, suc, Bool, cond, List, [], ◌∷◌, ◌++◌, map, Option, Some}
 use Rattle.std.specs.Prelude.{None, slice_get, decimal}
+use Rattle.plain_netlist.specs.Devices.{row_over}
 use Rattle.plain_netlist.specs.Sound.{IsGood}
 use Rattle.plain_netlist.specs.Netlist.{DeviceRow, CallRow, Circuit, Netlist, IsCircuit, Slot, slot}
-use Rattle.align_laws.specs.Flat.{Placing, Stays, Goes, Maps, below, AreInlined, row_through}
+use Rattle.align_laws.specs.Flat.{Placing, Stays, Goes, Maps, below, AreInlined}
 use Rattle.align_laws.specs.Flat.{call_through}
 
 -- a net, a device, a call of a flat circuit, with the path that it is from
@@ -65,7 +66,7 @@ abbrev pub net_below : ℕ → NetAt → NetAt
 net_below k n = record { from = below k n.from; name = 88 ∷ (decimal (suc k) ++ 47 ∷ n.name) }
 
 abbrev pub device_below : ℕ → (ℕ → ℕ) → DeviceAt → DeviceAt
-device_below k to d = record { from = below k d.from; row = row_through to d.row }
+device_below k to d = record { from = below k d.from; row = row_over to d.row }
 
 abbrev pub call_below : ℕ → (ℕ → ℕ) → CallAt → CallAt
 call_below k to r = record { way = k ∷ r.way; row = call_through to r.row }

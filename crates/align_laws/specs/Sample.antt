@@ -1,18 +1,18 @@
 -- Three circuits, IN in MID in TOP, where MID has no partner: its flat caller, as lists.
 use Rattle.std.specs.Prelude.{◌≡◌, ℕ, zero, suc, Bool, true, false, [], ◌∷◌}
+use Rattle.plain_netlist.specs.declared.kinds.DeviceKind.TheVariants.{Mos4}
+use Rattle.plain_netlist.specs.Devices.{Both}
 use Rattle.plain_netlist.specs.Netlist.{DeviceRow, Circuit, Netlist, slot}
 use Rattle.align_laws.specs.Lists.{FlatCircuit, inlined, plain, AreFlat}
 
 -- a transistor with its source and bulk on one net
 abbrev pub transistor : ℕ → ℕ → ℕ → DeviceRow
 transistor source gate drain = record {
+  kind = Mos4;
   class = 110 ∷ [];
-  length = 1;
-  width = 1;
-  source = source;
-  gate = gate;
-  drain = drain;
-  bulk = source;
+  sizes = 1 ∷ 1 ∷ [];
+  ends = Both source drain;
+  others = gate ∷ source ∷ [];
 }
 
 -- the nets a, b, c; the first two are pins

@@ -1,25 +1,23 @@
--- The transistors of good gates, one after the other.
-use Rattle.std.proofs.Common.{◌≡◌, ℕ, zero, suc, ◌+◌, ◌<◌, List, [], ◌∷◌, ◌++◌, append_assoc, Some, flat_map, map, take, slice_get, get_or, length, refl, sym, ◌∙◌, ap, subst}
+-- The devices of good gates, one after the other.
+use Rattle.std.proofs.Common.{◌≡◌, ℕ, zero, suc, ◌+◌, ◌<◌, List, [], ◌∷◌, ◌++◌, append-nil, append_assoc, Some, flat_map, map, take, slice_get, get_or, length, refl, sym, ◌∙◌, ap, subst}
 use Rattle.std.proofs.Math.Seq.{take-length}
 use Rattle.std.proofs.lemmas.Grind.{flat_map-append}
 use Rattle.std.proofs.lemmas.List.{map-append, take_more}
 use Rattle.deep_tables.specs.Gates.{plain_gate}
 use Rattle.deep_tables.specs.declared.gates.Gate.{Gate}
 use Rattle.flat_layout.specs.Circuits.{AreCircuitDevices, IsDeviceOfGate}
-use Rattle.flat_layout.specs.Gates.{Rule}
-use Rattle.flat_layout.specs.GateTables.{Bad, GateEntry, GateRow, GateSquare, Good, GoodGate, Verdict, good_gates, terminal_net, with_good}
-use Rattle.plain_netlist.specs.Netlist.{Circuit, DeviceRow, on}
-use Rattle.plain_netlist.specs.Normal.{AreNumbered, terminal_nets}
+use Rattle.flat_layout.specs.Gates.{Rule, sizes_of}
+use Rattle.flat_layout.specs.GateTables.{Bad, GateEntry, GateRow, GateSquare, Good, GoodGate, Verdict, device_by, good_gates, with_good}
+use Rattle.flat_laws.proofs.Devices.{OnNets}
+use Rattle.plain_netlist.proofs.Rows.{over_wider}
+use Rattle.plain_netlist.specs.Devices.{terminal_nets}
+use Rattle.plain_netlist.specs.Netlist.{Circuit, DeviceRow}
+use Rattle.plain_netlist.specs.Normal.{AreNumbered}
 use Rattle.rule_layers.specs.Meaning.{device_rules}
 use Rattle.rule_text.specs.Rules.{Rules}
 use Rattle.circuit_phase.specs.Devices.{AddDevices, AreDevicesOf}
-use Rattle.circuit_phase.specs.Numbering.{AreKept, with_net}
-use Rattle.circuit_phase.proofs.Counting.{kept, kept_in}
+use Rattle.circuit_phase.specs.Numbering.{AreKept}
 use Rattle.circuit_phase.proofs.Series.{numbered_on}
-
-pub all_kept : (old new : List ℕ) (a b c d : ℕ) → new ≡ with_net (with_net (with_net (with_net old a) b) c) d → AreKept old new
-all_kept old new a b c d is i x h =
-    kept_in (with_net (with_net (with_net old a) b) c) new d i x is (kept (with_net (with_net old a) b) c i x (kept (with_net old a) b i x (kept old a i x h)))
 
 pub good_added : (rules : List Rule) (unit : ℕ) (e : GateEntry) (row : GateRow) (old new : List ℕ) (before after : List DeviceRow) (dev : DeviceRow) → e.verdict ≡ Good row → AreKept old new → after ≡ before ++ dev ∷ []
     → IsDeviceOfGate rules unit new (record { at = e.at; row = row }) dev → AreNumbered (length new) (length old) (terminal_nets dev) → AddDevices rules unit (e ∷ []) old new before after
@@ -28,17 +26,14 @@ good_added rules unit e row old new before after dev good kept rows is numbered 
   added = dev ∷ [];
   rows = rows;
   devices = subst (λ (v : Verdict). AreDevicesOf rules unit new (with_good e.at v []) (dev ∷ [])) (sym good) (is, tt);
-  numbered = numbered;
+  numbered = subst (λ (l : List ℕ). AreNumbered (length new) (length old) l) (sym (append-nil (terminal_nets dev))) numbered;
 }
 
 pub device_kept : (rules : List Rule) (unit : ℕ) (old new : List ℕ) (gate : GoodGate) (row : DeviceRow) → AreKept old new → IsDeviceOfGate rules unit old gate row → IsDeviceOfGate rules unit new gate row
 device_kept rules unit old new gate row keep h = record {
   rule = h.rule;
   is = h.is;
-  class = h.class;
-  width = h.width;
-  length = h.length;
-  poles = λ pole. keep (on pole row) (terminal_net pole gate.row) (h.poles pole);
+  over = over_wider (OnNets old) (OnNets new) (λ x a at. keep a x at) (device_by h.rule (sizes_of h.rule unit gate.row.twice_w gate.row.twice_l) gate.row) row h.over;
 }
 
 devices_on : (rules : List Rule) (unit : ℕ) (mid new : List ℕ) (gates more : List GoodGate) (rows added : List DeviceRow) → AreKept mid new → AreDevicesOf rules unit mid gates rows → AreDevicesOf rules unit new more added → AreDevicesOf rules unit new (gates ++ more) (rows ++ added)

@@ -4,7 +4,7 @@ use Rattle.base_laws.proofs.Items.{item_at}
 use Rattle.std.proofs.lemmas.Option.{same_Some, slice_get_within}
 use Rattle.flat_layout.specs.Circuits.{AreCircuitDevices, AreDrawn, IsDrawnBelow, drawn_names, drawn_nets, pin_nets}
 use Rattle.flat_layout.specs.Gates.{Rule}
-use Rattle.flat_layout.specs.GateTables.{GateEntry, good_gates, terminal_net}
+use Rattle.flat_layout.specs.GateTables.{GateEntry, gate_nets, good_gates}
 use Rattle.flat_layout.specs.Layout.{Design}
 use Rattle.flat_layout.specs.Nets.{CellNets, Child}
 use Rattle.flat_layout.specs.Pins.{CellPins, HasGate, IsNetOf}
@@ -12,8 +12,10 @@ use Rattle.flat_layout.specs.Regions.{Wiring}
 use Rattle.geo_base.specs.declared.shapes.Rect.{Rect}
 use Rattle.plain_netlist.proofs.Members.{either_side, from_all, listed, position}
 use Rattle.plain_netlist.specs.Lists.{AreApart, IsListed}
-use Rattle.plain_netlist.specs.Netlist.{Bulk, CallRow, Circuit, DeviceRow, Drain, Gate, Pole, Source, on}
-use Rattle.plain_netlist.specs.Normal.{AreNumbered, appearances, terminal_nets}
+use Rattle.flat_laws.proofs.Devices.{gate_net}
+use Rattle.plain_netlist.specs.Devices.{terminal_nets}
+use Rattle.plain_netlist.specs.Netlist.{CallRow, Circuit, DeviceRow}
+use Rattle.plain_netlist.specs.Normal.{AreNumbered, appearances}
 use Rattle.circuit_phase.specs.Calls.{AreCallsTo}
 use Rattle.circuit_phase.specs.Made.{IsMadeOf}
 use Rattle.circuit_phase.specs.Numbering.{AreKept, AreNumbersOf}
@@ -44,13 +46,6 @@ devices_kept rules unit l old new c keep h = record {
 }
 
 -- a terminal of a row
-pole_of : (row : DeviceRow) (n : ℕ) → IsListed n (terminal_nets row) → (pole : Pole) × (on pole row ≡ n)
-pole_of row n (inl e) = (Drain, sym e)
-pole_of row n (inr (inl e)) = (Gate, sym e)
-pole_of row n (inr (inr (inl e))) = (Source, sym e)
-pole_of row n (inr (inr (inr (inl e)))) = (Bulk, sym e)
-pole_of row n (inr (inr (inr (inr h)))) = absurd h
-
 module _ (d : Design) (w : Wiring) (nets : ℕ → CellNets) (pins : ℕ → CellPins) (drawn : ℕ → List Bool) (circuits : List ℕ) (cell : ℕ) (v : CellNets) (l : List GateEntry) (marks : List Bool) (rules : List Rule) (unit : ℕ) where
   abbrev AreMarks : Type 0
   AreMarks = (own : ℕ → ℕ → List Rect) → AreDrawn d (tables_with own nets) (λ c. l) pins drawn cell marks
@@ -72,10 +67,9 @@ module _ (d : Design) (w : Wiring) (nets : ℕ → CellNets) (pins : ℕ → Cel
       let lt = slice_get_within c.devices j.0 r.0 j.1 in
       let long = devices.count in
       let gate = item_at (good_gates l) j.0 (omega (arith, lt, long)) in
-      let pole = pole_of r.0 i r.2 in
-      let stands = (devices.each j.0 gate.0 r.0 gate.1 j.1).poles pole.0 in
-      let is : terminal_net pole.0 gate.0.row ≡ x = same_Some (terminal_net pole.0 gate.0.row) x (sym stands ∙ ap (λ n. slice_get new n) pole.1 ∙ at) in
-      let has : HasGate (λ c. l) cell x = (j.0, gate.0, gate.1, pole.0, is) in
+      let net = gate_net rules unit new gate.0 r.0 (devices.each j.0 gate.0 r.0 gate.1 j.1) i r.2 in
+      let is : net.0 ≡ x = same_Some net.0 x (sym net.2 ∙ at) in
+      let has : HasGate (λ c. l) cell x = (j.0, gate.0, gate.1, subst (λ y. IsListed y (gate_nets gate.0.row)) is net.1) in
       let low = under x has in
       let count = ap (λ (n : CellNets). n.count) same in
       ((are (λ c k. [])).each x (omega (arith, low, count))).1 (inl has)

@@ -12,7 +12,8 @@ use Rattle.flat_layout.specs.Regions.{Wiring}
 use Rattle.geo_base.specs.declared.shapes.Rect.{Rect}
 use Rattle.plain_netlist.proofs.Members.{listed, position}
 use Rattle.plain_netlist.specs.Lists.{IsListed}
-use Rattle.plain_netlist.specs.Netlist.{Circuit, on}
+use Rattle.flat_laws.proofs.Devices.{device_net}
+use Rattle.plain_netlist.specs.Netlist.{Circuit}
 use Rattle.circuit_phase.specs.Made.{IsMadeOf}
 use Rattle.circuit_phase.specs.Placed.{tables_with}
 use Rattle.circuit_phase.proofs.Leading.{true_pin}
@@ -30,7 +31,7 @@ drawn_over d t l of pins read drawn cell marks is same h = record {
 }
   where
     to : (x : ℕ) → HasGate (λ c. l) cell x ⊎ IsDrawnBelow d t pins read cell x → HasGate of cell x ⊎ IsDrawnBelow d t pins drawn cell x
-    to x (inl (i, gate, at, pole, e)) = inl (i, gate, subst (λ (m : List GateEntry). slice_get (good_gates m) i ≡ Some gate) (sym is) at, pole, e)
+    to x (inl (i, gate, at, e)) = inl (i, gate, subst (λ (m : List GateEntry). slice_get (good_gates m) i ≡ Some gate) (sym is) at, e)
     to x (inr b) = inr (record {
       number = b.number;
       place = b.place;
@@ -42,7 +43,7 @@ drawn_over d t l of pins read drawn cell marks is same h = record {
     })
 
     back : (x : ℕ) → HasGate of cell x ⊎ IsDrawnBelow d t pins drawn cell x → HasGate (λ c. l) cell x ⊎ IsDrawnBelow d t pins read cell x
-    back x (inl (i, gate, at, pole, e)) = inl (i, gate, subst (λ (m : List GateEntry). slice_get (good_gates m) i ≡ Some gate) is at, pole, e)
+    back x (inl (i, gate, at, e)) = inl (i, gate, subst (λ (m : List GateEntry). slice_get (good_gates m) i ≡ Some gate) is at, e)
     back x (inr b) = inr (record {
       number = b.number;
       place = b.place;
@@ -62,7 +63,7 @@ gate_below d t of pins drawn height linked (suc n) cell lt are x told = chosen (
   where
     chosen : HasGate of cell x ⊎ IsDrawnBelow d t pins drawn cell x → ((k : ℕ) (p : Place) (b : ℕ) → IsPlaced d cell k p → IsDrawn drawn p.cell b → (e : ℕ) × IsUnder d p.cell e × (gate : GoodGate) × IsListed gate (good_gates (of e)))
         → (e : ℕ) × IsUnder d cell e × (gate : GoodGate) × IsListed gate (good_gates (of e))
-    chosen (inl (i, gate, at, pole, e)) rest = (cell, ([], refl), gate, listed (good_gates (of cell)) i gate at)
+    chosen (inl (i, gate, at, e)) rest = (cell, ([], refl), gate, listed (good_gates (of cell)) i gate at)
     chosen (inr b) rest = let r = rest b.number b.place b.net b.placed b.is_drawn in (r.0, (b.number ∷ r.1.0, (b.place, b.placed, r.1.1)), r.2, r.3)
 
 module _ (d : Design) (w : Wiring) (nets : ℕ → CellNets) (own : ℕ → ℕ → List Rect) (of : ℕ → List GateEntry) (pins : ℕ → CellPins) (read drawn : ℕ → List Bool) (circuits : List ℕ) (cell : ℕ) (l : List GateEntry) (marks : List Bool) (rules : List Rule) (unit : ℕ) (c : Circuit) (made : IsMadeOf d nets pins read circuits cell l marks rules unit c) where
@@ -72,13 +73,13 @@ module _ (d : Design) (w : Wiring) (nets : ℕ → CellNets) (own : ℕ → ℕ 
   module _ (is : of cell ≡ l) (here : drawn cell ≡ marks) (same : (k : ℕ) (p : Place) → IsPlaced d cell k p → read p.cell ≡ drawn p.cell) (right : AreNets d w t cell (nets cell)) (are : AreDrawn d t of pins drawn cell marks)
       (known : (k b : ℕ) (p : Place) → IsPlaced d cell k p → IsDrawn drawn p.cell b → IsListed p.cell circuits) where
     on_device : (x : ℕ) → HasGate of cell x → IsListed x made.on
-    on_device x (i, gate, at, pole, e) =
+    on_device x (i, gate, at, e) =
         let here_at = subst (λ (m : List GateEntry). slice_get (good_gates m) i ≡ Some gate) is at in
         let lt = slice_get_within (good_gates l) i gate here_at in
         let long = made.has_devices.count in
         let row = item_at c.devices i (omega (arith, lt, long)) in
-        let stands = (made.has_devices.each i gate row.0 here_at row.1).poles pole in
-        subst (λ y. IsListed y made.on) e (listed made.on (on pole row.0) _ stands)
+        let net = device_net rules unit made.on gate row.0 (made.has_devices.each i gate row.0 here_at row.1) x e in
+        listed made.on net.0 x net.2
 
     on_call : (x : ℕ) → IsDrawnBelow d t pins drawn cell x → IsListed x made.on
     on_call x b =

@@ -13,7 +13,7 @@ use Rattle.flat_layout.specs.Regions.{Wiring}
 use Rattle.flat_laws.proofs.Items.{items_sound}
 use Rattle.net_marks.specs.Marks.{has_terminal}
 use Rattle.circuit_phase.specs.Placed.{AreReadable, is_child_marked, is_drawn_pin, is_marked_by, placed_cells}
-use Rattle.net_marks.proofs.Poles.{gate_of, of_gate}
+use Rattle.net_marks.proofs.Listed.{gate_of, of_gate}
 
 -- drawn pins
 

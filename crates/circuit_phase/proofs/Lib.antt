@@ -16,3 +16,4 @@ pub mod Numbers
 pub mod Righting
 pub mod Ruled
 pub mod Series
+pub mod Terminals

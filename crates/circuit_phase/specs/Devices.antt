@@ -3,20 +3,22 @@ use Rattle.std.specs.Prelude.{◌≡◌, ℕ, List, [], ◌∷◌, ◌++◌, len
 use Rattle.flat_layout.specs.Circuits.{IsDeviceOfGate}
 use Rattle.flat_layout.specs.Gates.{Rule}
 use Rattle.flat_layout.specs.GateTables.{GateEntry, GateRow, GoodGate, good_gates}
+use Rattle.net_model.specs.Rows.{ends_in, others_in}
+use Rattle.plain_netlist.specs.declared.kinds.DeviceKind.{DeviceKind}
 use Rattle.plain_netlist.specs.Netlist.{DeviceRow}
-use Rattle.plain_netlist.specs.Normal.{AreNumbered, terminal_nets}
+use Rattle.plain_netlist.specs.Devices.{terminal_nets}
+use Rattle.plain_netlist.specs.Normal.{AreNumbered}
 use Rattle.circuit_phase.specs.Numbering.{AreKept}
-use Rattle.circuit_phase.specs.declared.devices.TerminalNets.{TerminalNets}
 
--- a good gate: twice its width and its length in squares, and its terminals' nets
-abbrev pub gate_row : ℕ → ℕ → TerminalNets → GateRow
-gate_row twice_w twice_l nets = record {
+-- a good gate of this kind, twice its width and its length in squares, its terminals on these nets
+-- in the order of a netlist's text
+abbrev pub gate_row : DeviceKind → ℕ → ℕ → List ℕ → GateRow
+gate_row kind twice_w twice_l nets = record {
+  kind = kind;
   twice_w = twice_w;
   twice_l = twice_l;
-  source = nets.source;
-  gate = nets.gate;
-  drain = nets.drain;
-  bulk = nets.bulk;
+  ends = ends_in kind nets;
+  others = others_in kind nets;
 }
 
 -- each gate's device, in order

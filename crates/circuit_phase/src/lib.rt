@@ -21,7 +21,7 @@ pub use below::Below;
 pub use calls::call_rows;
 pub use cells::placed_cells;
 pub use circuits::{CircuitCells, find_circuits, number_of};
-pub use devices::{TerminalNets, device_row, number_terminals, size};
+pub use devices::{device_row, number_terminals, size};
 pub use drawn::{drawn_names, drawn_nets, pin_nets};
 pub use gated::gated_cells;
 pub use made::{CellParts, cell_circuit};

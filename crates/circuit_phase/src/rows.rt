@@ -6,14 +6,15 @@ ghost use Rattle.deep_tables.specs.declared.gates.Gate.{Gate};
 ghost use Rattle.flat_layout.specs.Circuits.{AreCircuitDevices};
 ghost use Rattle.net_model.specs.Rows.{plain_device};
 ghost use Rattle.plain_netlist.specs.Netlist.{Circuit};
-ghost use Rattle.plain_netlist.specs.Normal.{AreNumbered, terminal_nets};
+ghost use Rattle.plain_netlist.specs.Devices.{terminal_nets};
+ghost use Rattle.plain_netlist.specs.Normal.{AreNumbered};
 ghost use Rattle.rule_layers.specs.Meaning.{device_rules};
 ghost use Rattle.rule_text.specs.Seen.{rules_seen};
 ghost use Rattle.circuit_phase.specs.Devices.{AddDevices};
 ghost use Rattle.net_marks.specs.Marks.{has_terminal, is_terminal};
 ghost use Rattle.circuit_phase.specs.Numbering.{AreKept};
 
-use crate::devices::{TerminalNets, device_row};
+use crate::devices::{device_row, number_terminals};
 use crate::numbering::Numbering;
 use deep_tables::{Gate, GateState};
 use net_model::DeviceRow;
@@ -33,34 +34,27 @@ fn push_device(
     requires terminals { (x : ℕ) → is_terminal x (plain_state gate.now.state) ≡ true
         → x < numbering.old.count }
     ensures count { OnOk result (numbering.new.count ≡ numbering.old.count) }
-    ensures devices { OnOk result (AddDevices (device_rules (rules_seen rules.now)) unit_pm (plain_gate gate.now ∷ [])
-        numbering.old.nets numbering.new.nets (map plain_device rows.old.items)
-        (map plain_device rows.new.items)) }
+    ensures devices { OnOk result (AddDevices (device_rules (rules_seen rules.now)) unit_pm
+        (plain_gate gate.now ∷ []) numbering.old.nets numbering.new.nets
+        (map plain_device rows.old.items) (map plain_device rows.new.items)) }
 {
     if let GateState::Good {
+        kind,
         twice_w,
         twice_l,
-        source,
-        drain,
-        gate: poly,
-        bulk,
+        ..
     } = gate.state
     {
-        let nets = TerminalNets {
-            source,
-            gate: poly,
-            drain,
-            bulk,
-        };
+        let on = number_terminals(numbering, gate.terminal_nets())?;
         let row = device_row(
             alloc,
             rules,
             gate.device,
             unit_pm,
+            kind,
             twice_w,
             twice_l,
-            nets,
-            numbering,
+            on,
         )?;
         rows.push(row)?;
     }

@@ -7,12 +7,14 @@ use Rattle.std.proofs.lemmas.Option.{slice_get-get_or, same_Some, none-some}
 use Rattle.round_laws.specs.Nodes.{Side, Layout, Schematic, Node}
 use Rattle.plain_netlist.specs.Lists.{IsListed}
 use Rattle.round_laws.specs.Web.{End}
-use Rattle.plain_netlist.specs.Netlist.{Pole, Source, Gate, Drain, Bulk, on, DeviceRow, CallRow, Circuit, Netlist, IsDevice, IsCircuit, IsCall, IsPin, HasNet}
+use Rattle.plain_netlist.specs.Netlist.{DeviceRow, CallRow, Circuit, Netlist, IsDevice, IsCircuit, IsCall, IsPin, HasNet}
+use Rattle.plain_netlist.specs.Devices.{terminal_nets}
 use Rattle.plain_netlist.specs.Sound.{IsGood}
 use Rattle.plain_netlist.proofs.Once.{one_circuit}
 use Rattle.match_laws.specs.Circuits.{Pair, Pairing, IsOneToOne, IsCorrespondence, IsFitting, device_ends}
 use Rattle.match_laws.specs.Answer.{Answer, Match, DiffersInRound, DiffersByTree, Undecided, Skipped, equal_names, IsAnswer}
 use Rattle.match_laws.proofs.Answer.{matched}
+use Rattle.match_laws.proofs.Images.{device_net}
 use Rattle.align_laws.specs.Lists.{circuit_or}
 use Rattle.align_laws.specs.Partners.{AreSides}
 use Rattle.composed_laws.specs.Answered.{pairing_or, right_pins, children_of, is_called, children_in, pair_in, Asked}
@@ -83,12 +85,12 @@ module _ (left right : Netlist) (height : ℕ → ℕ) (left_good : IsGood left 
         same_long p f h (left_first k c is) (right_first k d it) (left_inside k c is) (right_inside k d it),
       )
 
-  nets_in : (n : Netlist) → ((c j : ℕ) (row : DeviceRow) (pole : Pole) → IsDevice n c j row → HasNet n c (on pole row)) → (k : ℕ) (c : Circuit) → IsCircuit n k c
-      → (j : ℕ) (row : DeviceRow) (pole : Pole) → slice_get c.devices j ≡ Some row → on pole row < length c.nets
-  nets_in n within k c is j row pole at =
-      let h = within k j row pole (c, is, at) in
+  nets_in : (n : Netlist) → ((c j m : ℕ) (row : DeviceRow) → IsDevice n c j row → IsListed m (terminal_nets row) → HasNet n c m) → (k : ℕ) (c : Circuit) → IsCircuit n k c
+      → (j m : ℕ) (row : DeviceRow) → slice_get c.devices j ≡ Some row → IsListed m (terminal_nets row) → m < length c.nets
+  nets_in n within k c is j m row at on =
+      let h = within k j m row (c, is, at) on in
       let same : h.0 ≡ c = let a = h.1 in cc in
-      subst (λ (x : Circuit). on pole row < length x.nets) same h.2
+      subst (λ (x : Circuit). m < length x.nets) same h.2
 
   call_in : (n : Netlist) → ((c k p m : ℕ) (row : CallRow) → IsCall n c k row → slice_get row.nets p ≡ Some m → HasNet n c m) → (k : ℕ) (c : Circuit) → IsCircuit n k c
       → (j : ℕ) (row : CallRow) → slice_get c.calls j ≡ Some row → (m : ℕ) → IsListed m row.nets → m < length c.nets
@@ -99,13 +101,9 @@ module _ (left right : Netlist) (height : ℕ → ℕ) (left_good : IsGood left 
       let same : h.0 ≡ c = let a = h.1 in cc in
       subst (λ (x : Circuit). m < length x.nets) same h.2
 
-  ends_in : (n : Netlist) (k : ℕ) (c : Circuit) (side : Side) → ((j : ℕ) (row : DeviceRow) (pole : Pole) → slice_get c.devices j ≡ Some row → on pole row < length c.nets)
+  ends_in : (n : Netlist) (k : ℕ) (c : Circuit) (side : Side) → ((j m : ℕ) (row : DeviceRow) → slice_get c.devices j ≡ Some row → IsListed m (terminal_nets row) → m < length c.nets)
       → (j : ℕ) (row : DeviceRow) → slice_get c.devices j ≡ Some row → (e : End Node) → IsListed e (device_ends side row) → e.node.number < length c.nets
-  ends_in n k c side net j row at e (inl i) = subst (λ (x : End Node). x.node.number < length c.nets) (sym i) (net j row Source at)
-  ends_in n k c side net j row at e (inr (inl i)) = subst (λ (x : End Node). x.node.number < length c.nets) (sym i) (net j row Gate at)
-  ends_in n k c side net j row at e (inr (inr (inl i))) = subst (λ (x : End Node). x.node.number < length c.nets) (sym i) (net j row Drain at)
-  ends_in n k c side net j row at e (inr (inr (inr (inl i)))) = subst (λ (x : End Node). x.node.number < length c.nets) (sym i) (net j row Bulk at)
-  ends_in n k c side net j row at e (inr (inr (inr (inr i)))) = absurd i
+  ends_in n k c side net j row at e i = net j e.node.number row at (device_net side row e i).listed
 
   -- the right pins of each pair that circuit k calls are one to one
   abbrev pub AreBelow : Circuit → Type 0

@@ -3,13 +3,15 @@ use Rattle.std.proofs.Common.{◌≡◌, inl, inr, ℕ, suc, ◌<◌, false, Lis
 use Rattle.base_laws.proofs.Items.{item_at}
 use Rattle.std.proofs.lemmas.Option.{same_Some, slice_get_within, slice_get-get_or, get_or_from_slice_get}
 use Rattle.plain_netlist.specs.Lists.{IsListed}
-use Rattle.plain_netlist.specs.Netlist.{Pole, Source, Gate, Drain, Bulk, on, DeviceRow, CallRow, Circuit, Netlist, IsCircuit, IsCall, IsDevice, HasNet, HasDevice, Slot, slot}
+use Rattle.plain_netlist.specs.Netlist.{DeviceRow, CallRow, Circuit, Netlist, IsCircuit, IsCall, IsDevice, HasNet, HasDevice, Slot, slot}
 use Rattle.plain_netlist.proofs.Members.{listed}
 use Rattle.plain_netlist.proofs.Once.{one_circuit}
 use Rattle.match_laws.specs.Circuits.{Pairing, IsOneToOne, IsCorrespondence, IsDeviceImage}
 use Rattle.match_laws.proofs.Sums.{index_below, index_one, index_found}
-use Rattle.composed_laws.specs.Paired.{AreRowsPaired, IsImaged, IsPaired, IsWholeMatch}
-use Rattle.plain_netlist.specs.Flats.{Row, AreRowsAlike, Corresponds, row_at, expanded}
+use Rattle.composed_laws.specs.Paired.{IsImaged, IsPaired, IsWholeMatch}
+use Rattle.plain_netlist.specs.Devices.{Row, AreRowsAlike}
+use Rattle.plain_netlist.proofs.Rows.{rows_where, rows_over}
+use Rattle.plain_netlist.specs.Flats.{Corresponds, row_at, expanded}
 use Rattle.composed_laws.specs.Composed.{IsMatch, IsComparable, IsNetPair, IsDevicePair, IsCallPair, AreDevicesPaired, AreNetsPaired, WholeMatchLaw, MatchCorrespondsLaw}
 use Rattle.composed_laws.proofs.Slots.{whole}
 
@@ -59,20 +61,11 @@ module _ (left right : Netlist) (children : ℕ → Option (List ℕ)) (m : ℕ 
   net_low : (c : ℕ) (x : Circuit) (a : ℕ) → IsCircuit left c x → HasNet left c a → a < length x.nets
   net_low c x a is h = subst (λ (z : Circuit). a < length z.nets) (one_circuit left c h.0 x h.1 is) h.2
 
-  rows_paired : (c : ℕ) (x : Circuit) (d e : DeviceRow) (j : ℕ) → IsCircuit left c x → IsDevice left c j d → IsDeviceImage (m c).nets d e → AreRowsPaired (Net c) d e
-  rows_paired c x d e j is at i =
-      let net : (pole : Pole) (b : ℕ) → slice_index (m c).nets (on pole d) ≡ b → Net c (on pole d) b
-      = λ pole b q. subst (λ (n : ℕ). Net c (on pole d) n) q (net_pair c (on pole d) x is (net_low c x (on pole d) is (sl.within.devices c j d pole at))) in
-      record {
-        class = i.class;
-        length = i.length;
-        width = i.width;
-        gate = net Gate e.gate i.gate;
-        bulk = net Bulk e.bulk i.bulk;
-        channel = elim i.channel [ inl p ↦ inl (net Source e.source p.0, net Drain e.drain p.1) | inr p ↦ inr (net Source e.drain p.0, net Drain e.source p.1) ];
-      }
+  rows_paired : (c : ℕ) (x : Circuit) (d e : DeviceRow) (j : ℕ) → IsCircuit left c x → IsDevice left c j d → IsDeviceImage (m c).nets d e → AreRowsAlike (Net c) d e
+  rows_paired c x d e j is at i = rows_where (λ n b. slice_index (m c).nets n ≡ b) (Net c) d e
+      (λ n b on q. subst (λ (k : ℕ). Net c n k) q (net_pair c n x is (net_low c x n is (sl.within.devices c j n d at on)))) i
 
-  devices : (c i : ℕ) (row : DeviceRow) → IsDevice left c i row → (j : ℕ) × (other : DeviceRow) × Device c i j × IsDevice right c j other × AreRowsPaired (Net c) row other
+  devices : (c i : ℕ) (row : DeviceRow) → IsDevice left c i row → (j : ℕ) × (other : DeviceRow) × Device c i j × IsDevice right c j other × AreRowsAlike (Net c) row other
   devices c i row (x, is, at) =
       let p = pair_at c x is in
       let low = slice_get_within x.devices i row at in
@@ -80,7 +73,7 @@ module _ (left right : Netlist) (children : ℕ → Option (List ℕ)) (m : ℕ 
       let e = item_at p.0.devices j (index_below (m c).devices _ _ i p.2.devices low) in
       (j, e.0, (x, is, list_there (m c).devices _ _ i p.2.devices low), (p.0, p.1, e.1), rows_paired c x row e.0 i is (x, is, at) (p.2.device i row e.0 at e.1))
 
-  devices_back : (c j : ℕ) (other : DeviceRow) → IsDevice right c j other → (i : ℕ) × (row : DeviceRow) × Device c i j × IsDevice left c i row × AreRowsPaired (Net c) row other
+  devices_back : (c j : ℕ) (other : DeviceRow) → IsDevice right c j other → (i : ℕ) × (row : DeviceRow) × Device c i j × IsDevice left c i row × AreRowsAlike (Net c) row other
   devices_back c j other (y, is, at) =
       let p = pair_back c y is in
       let i = index_found (m c).devices _ _ j p.2.devices (slice_get_within y.devices j other at) in
@@ -221,16 +214,16 @@ module _ (left right : Netlist) (children : ℕ → Option (List ℕ)) (m : ℕ 
   abbrev N : ℕ → Slot → Slot → Type 0
   N top = AreNetsPaired left m top
 
-  alike : (top : ℕ) (a x : Slot) (row other : DeviceRow) → AreRowsPaired (λ i j. N top (slot a.path i) (slot x.path j)) row other → AreRowsAlike (N top) (row_at a.path row) (row_at x.path other)
-  alike top a x row other h = record { class = h.class; length = h.length; width = h.width; gate = h.gate; bulk = h.bulk; channel = h.channel }
+  alike : (top : ℕ) (a x : Slot) (row other : DeviceRow) → AreRowsAlike (λ i j. N top (slot a.path i) (slot x.path j)) row other → AreRowsAlike (N top) (row_at a.path row) (row_at x.path other)
+  alike top a x row other h = rows_over (λ i j. N top (slot a.path i) (slot x.path j)) (N top) (slot a.path) (slot x.path) (λ n m k. k) row other h
 
   there : (top : ℕ) (a : Slot) (r : Row Slot) (row : DeviceRow) → r ≡ row_at a.path row
-      → (x : Slot) × (other : DeviceRow) × HasDevice right top x.path x.net other × D top a x × AreRowsPaired (λ i j. N top (slot a.path i) (slot x.path j)) row other
+      → (x : Slot) × (other : DeviceRow) × HasDevice right top x.path x.net other × D top a x × AreRowsAlike (λ i j. N top (slot a.path i) (slot x.path j)) row other
       → (x : Slot) × (s : Row Slot) × (expanded right top).has_device x s × D top a x × AreRowsAlike (N top) r s
   there top a r row e (x, other, has, pair, rows) = (x, row_at x.path other, (other, has, refl), pair, subst (λ (y : Row Slot). AreRowsAlike (N top) y (row_at x.path other)) (sym e) (alike top a x row other rows))
 
   back : (top : ℕ) (x : Slot) (s : Row Slot) (other : DeviceRow) → s ≡ row_at x.path other
-      → (a : Slot) × (row : DeviceRow) × HasDevice left top a.path a.net row × D top a x × AreRowsPaired (λ i j. N top (slot a.path i) (slot x.path j)) row other
+      → (a : Slot) × (row : DeviceRow) × HasDevice left top a.path a.net row × D top a x × AreRowsAlike (λ i j. N top (slot a.path i) (slot x.path j)) row other
       → (a : Slot) × (r : Row Slot) × (expanded left top).has_device a r × D top a x × AreRowsAlike (N top) r s
   back top x s other e (a, row, has, pair, rows) = (a, row_at a.path row, (row, has, refl), pair, subst (λ (y : Row Slot). AreRowsAlike (N top) (row_at a.path row) y) (sym e) (alike top a x row other rows))
 

@@ -1,10 +1,12 @@
 -- Pairs of each circuit compose to pairs of what two netlists expand to.
 use Rattle.std.proofs.Common.{◌≡◌, ◌↔◌, inl, inr, ℕ, List, [], ◌∷◌, ◌++◌, Some, slice_get, refl, sym, ap, ap₂, subst}
 use Rattle.plain_netlist.specs.Chains.{IsChain}
+use Rattle.plain_netlist.specs.Devices.{AreRowsAlike}
+use Rattle.plain_netlist.proofs.Rows.{rows_wider}
 use Rattle.plain_netlist.specs.Netlist.{DeviceRow, CallRow, Netlist, IsCall, Slot, slot, Joins, IsEitherJoin, InOneNet, HasDevice, IsSlot}
 use Rattle.plain_netlist.proofs.Once.{one_call}
 use Rattle.plain_netlist.proofs.Links.{stays, prepend}
-use Rattle.composed_laws.specs.Paired.{AreRowsPaired, IsImaged, IsPaired, IsSlotPair, ArePaired, IsWholeMatch}
+use Rattle.composed_laws.specs.Paired.{IsImaged, IsPaired, IsSlotPair, ArePaired, IsWholeMatch}
 
 pub slot_is : (s t : Slot) → s.path ≡ t.path → s.net ≡ t.net → s ≡ t
 slot_is s t p n = ap₂ (λ (q : List ℕ) (m : ℕ). slot q m) p n
@@ -112,16 +114,6 @@ module _ (l r : Netlist) (net call : ℕ → ℕ → ℕ → Type 0) (net_one : 
       let image : m.0 ≡ e = call_one c k m.0 e m.2 pair in
       (m.1, subst (λ n. IsCall r c n m.1) image m.3, pair, subst (λ n. IsSlotPair r (λ n u v. X n v u) (λ n u v. call n v u) n es b ks a) (sym m.4) (turned X ks es row.circuit a b below))
 
-rows_map : (N M : ℕ → ℕ → Type 0) → ((a b : ℕ) → N a b → M a b) → (x y : DeviceRow) → AreRowsPaired N x y → AreRowsPaired M x y
-rows_map N M f x y h = record {
-  class = h.class;
-  length = h.length;
-  width = h.width;
-  gate = f x.gate y.gate h.gate;
-  bulk = f x.bulk y.bulk h.bulk;
-  channel = elim h.channel [ inl p ↦ inl (f x.source y.source p.0, f x.drain y.drain p.1) | inr p ↦ inr (f x.source y.drain p.0, f x.drain y.source p.1) ];
-}
-
 module _ (l r : Netlist) (net device call : ℕ → ℕ → ℕ → Type 0) (paired : (c : ℕ) → IsPaired l r net device call c) where
   abbrev N : ℕ → Slot → Slot → Type 0
   N c a x = ArePaired l net call c a x
@@ -165,7 +157,7 @@ module _ (l r : Netlist) (net device call : ℕ → ℕ → ℕ → Type 0) (pai
       (v.0 ∷ f.0, f.1, (v.1, v.3, subst (λ n. IsSlot l n f.0 f.1) (sym v.4) f.2), (v.1, v.3, v.2, subst (λ n. IsSlotPair l net call n f.0 f.1 es b) (sym v.4) f.3))
 
   devices : (path : List ℕ) (c i : ℕ) (row : DeviceRow) → HasDevice l c path i row
-      → (es : List ℕ) × (j : ℕ) × (other : DeviceRow) × HasDevice r c es j other × IsSlotPair l device call c path i es j × AreRowsPaired (λ m n. IsSlotPair l net call c path m es n) row other
+      → (es : List ℕ) × (j : ℕ) × (other : DeviceRow) × HasDevice r c es j other × IsSlotPair l device call c path i es j × AreRowsAlike (λ m n. IsSlotPair l net call c path m es n) row other
   devices [] c i row h = let f = (paired c).devices i row h in ([], f.0, f.1, f.3, f.2, f.4)
   devices (k ∷ ks) c i row (row', is, rest) =
       let f = devices ks row'.circuit i row rest in
@@ -175,11 +167,11 @@ module _ (l r : Netlist) (net device call : ℕ → ℕ → ℕ → Type 0) (pai
         f.2,
         (v.1, v.3, subst (λ n. HasDevice r n f.0 f.1 f.2) (sym v.4) f.3),
         (row', is, v.2, f.4),
-        rows_map (λ a b. IsSlotPair l net call row'.circuit ks a f.0 b) (λ a b. IsSlotPair l net call c (k ∷ ks) a (v.0 ∷ f.0) b) (λ a b s. (row', is, v.2, s)) row f.2 f.5,
+        rows_wider (λ a b. IsSlotPair l net call row'.circuit ks a f.0 b) (λ a b. IsSlotPair l net call c (k ∷ ks) a (v.0 ∷ f.0) b) (λ a b s. (row', is, v.2, s)) row f.2 f.5,
       )
 
   devices_back : (es : List ℕ) (c j : ℕ) (other : DeviceRow) → HasDevice r c es j other
-      → (path : List ℕ) × (i : ℕ) × (row : DeviceRow) × HasDevice l c path i row × IsSlotPair l device call c path i es j × AreRowsPaired (λ m n. IsSlotPair l net call c path m es n) row other
+      → (path : List ℕ) × (i : ℕ) × (row : DeviceRow) × HasDevice l c path i row × IsSlotPair l device call c path i es j × AreRowsAlike (λ m n. IsSlotPair l net call c path m es n) row other
   devices_back [] c j other h = let f = (paired c).devices_back j other h in ([], f.0, f.1, f.3, f.2, f.4)
   devices_back (e ∷ es) c j other (row', is, rest) =
       let f = devices_back es row'.circuit j other rest in
@@ -189,7 +181,7 @@ module _ (l r : Netlist) (net device call : ℕ → ℕ → ℕ → Type 0) (pai
         f.2,
         (v.1, v.3, subst (λ n. HasDevice l n f.0 f.1 f.2) (sym v.4) f.3),
         (v.1, v.3, v.2, subst (λ n. IsSlotPair l device call n f.0 f.1 es j) (sym v.4) f.4),
-        rows_map (λ a b. IsSlotPair l net call row'.circuit f.0 a es b) (λ a b. IsSlotPair l net call c (v.0 ∷ f.0) a (e ∷ es) b)
+        rows_wider (λ a b. IsSlotPair l net call row'.circuit f.0 a es b) (λ a b. IsSlotPair l net call c (v.0 ∷ f.0) a (e ∷ es) b)
             (λ a b s. (v.1, v.3, v.2, subst (λ n. IsSlotPair l net call n f.0 a es b) (sym v.4) s)) f.2 other f.5,
       )
 

@@ -1,14 +1,10 @@
 -- Netlists whose circuits are paired by position: pairs of nets, devices and calls, and what they
 -- compose to.
 use Rattle.std.specs.Prelude.{◌≡◌, ◌↔◌, ℕ, List, [], ◌∷◌, Some, slice_get}
-use Rattle.plain_netlist.specs.Flats.{AreRowsAlike, row_of}
+use Rattle.plain_netlist.specs.Devices.{AreRowsAlike}
 use Rattle.plain_netlist.specs.Netlist.{DeviceRow, CallRow, Circuit, Netlist, IsCircuit, IsCall}
 use Rattle.plain_netlist.specs.Netlist.{IsDevice, IsPin, HasNet, Slot, slot, InOneNet, HasDevice}
 use Rattle.plain_netlist.specs.Netlist.{IsSlot}
-
--- class and sizes are kept; gate and bulk are paired; source and drain are paired with the two
-abbrev pub AreRowsPaired : (net : ℕ → ℕ → Type 0) → DeviceRow → DeviceRow → Type 0
-AreRowsPaired net a b = AreRowsAlike net (row_of a) (row_of b)
 
 -- a call's image calls the paired circuit, and the net of each pin is paired with that of a paired
 -- pin
@@ -38,10 +34,10 @@ pub record IsPaired (l r : Netlist) (net device call : ℕ → ℕ → ℕ → T
   pub calls_back : (k : ℕ) (row : CallRow) → IsCall r c k row
       → IsImaged r l (λ n b a. net n a b) (λ n b a. call n a b) c k row
   pub devices : (i : ℕ) (row : DeviceRow) → IsDevice l c i row → (j : ℕ) × (other : DeviceRow)
-      × device c i j × IsDevice r c j other × AreRowsPaired (net c) row other
+      × device c i j × IsDevice r c j other × AreRowsAlike (net c) row other
   pub devices_back : (j : ℕ) (other : DeviceRow) → IsDevice r c j other
       → (i : ℕ) × (row : DeviceRow)
-      × device c i j × IsDevice l c i row × AreRowsPaired (net c) row other
+      × device c i j × IsDevice l c i row × AreRowsAlike (net c) row other
 
 -- a net (or a device) below a path of calls, and its image: call by call paired, and paired at the
 -- end
@@ -71,11 +67,11 @@ pub record IsWholeMatch (l r : Netlist) (net device call : ℕ → ℕ → ℕ
   pub devices : (a : Slot) (row : DeviceRow) → HasDevice l c a.path a.net row
       → (x : Slot) × (other : DeviceRow) × HasDevice r c x.path x.net other
       × ArePaired l device call c a x
-      × AreRowsPaired (λ m n. ArePaired l net call c (slot a.path m) (slot x.path n)) row other
+      × AreRowsAlike (λ m n. ArePaired l net call c (slot a.path m) (slot x.path n)) row other
   pub devices_back : (x : Slot) (other : DeviceRow) → HasDevice r c x.path x.net other
       → (a : Slot) × (row : DeviceRow) × HasDevice l c a.path a.net row
       × ArePaired l device call c a x
-      × AreRowsPaired (λ m n. ArePaired l net call c (slot a.path m) (slot x.path n)) row other
+      × AreRowsAlike (λ m n. ArePaired l net call c (slot a.path m) (slot x.path n)) row other
   pub device_one : (a x y : Slot) → ArePaired l device call c a x → ArePaired l device call c a y
       → x ≡ y
   pub device_one_back : (a b x : Slot) → ArePaired l device call c a x

@@ -31,7 +31,7 @@ told_in r gates cell = map (told_bad r) (bad_gates cell (gates_of gates cell))
 
 told_first : (r : Rules) (cell : ℕ) (at : GateSquare) (s : GateState) (rest : List flat.BadGate)
     → map (told_bad r) (with_bad cell at (plain_state s) rest) ≡ map (told_bad r) (with_bad cell at (plain_state s) []) ++ map (told_bad r) rest
-told_first r cell at (Good w l s d g b) rest = refl
+told_first r cell at (Good kind w l nets) rest = refl
 told_first r cell at (Bad cause) rest = refl
 
 pub told_list : (r : Rules) (cell : ℕ) (xs : List Gate) → flat_map (told_of r cell) xs ≡ map (told_bad r) (bad_gates cell (map plain_gate xs))

@@ -3,17 +3,19 @@ use Rattle.std.proofs.Common.{◌≡◌, ◌⊎◌, inl, inr, ℕ, ◌<◌, List
 use Rattle.std.proofs.lemmas.Int.{ints}
 use Rattle.std.proofs.lemmas.Option.{same_Some}
 use Rattle.geo_base.specs.declared.shapes.Square.{Square}
-use Rattle.flat_layout.specs.Gates.{Edge, Ends, TwoGroups, Region, Form, Beside, Alone, form_of, sheets, Rule, AreGroups, InGate, InSide, InOneGroup, IsLeast, IsSettled, IsSourceFirst, IsStep, IsTerminalNode, IsWide, geometry}
+use Rattle.flat_layout.specs.Gates.{Edge, Sides, TwoGroups, Region, Form, Beside, Alone, form_of, sheets, Rule, AreGroups, InGate, InSide, InOneGroup, IsLeast, IsSettled, IsSourceFirst, IsStep, IsTerminalNode, IsWide, geometry}
 use Rattle.flat_layout.specs.Parts.{IsGoodForm}
-use Rattle.flat_layout.specs.GateTables.{AreGates, Bad, GateEntry, GateRow, Good, IsGateBefore, IsGateRow, IsVerdict, Verdict, terminal_net}
+use Rattle.flat_layout.specs.GateTables.{AreGates, Bad, GateEntry, GateRow, Good, IsGateBefore, IsGateRow, IsVerdict, Verdict, counted_device}
 use Rattle.flat_layout.specs.Layout.{Design, IsReached}
 use Rattle.flat_layout.specs.Nets.{AreTables, NetHolds, Tables}
 use Rattle.flat_layout.specs.Plane.{IsSquareBefore}
 use Rattle.flat_layout.specs.Regions.{Node, Wiring, ground_of}
 use Rattle.plain_netlist.specs.Lists.{IsListed}
-use Rattle.plain_netlist.specs.Netlist.{Pole, Source, Gate, Drain, Bulk}
+use Rattle.plain_netlist.specs.declared.kinds.DeviceKind.{DeviceKind}
+use Rattle.plain_netlist.specs.Devices.{Ends, First, IsAt, IsRowOver, Other, Row, Second, Terminal}
 use Rattle.plain_netlist.proofs.Links.{back, both}
 use Rattle.plain_netlist.proofs.Listing.{one_rising}
+use Rattle.plain_netlist.proofs.Rows.{by_terminals, carried_row, row_over_self}
 use Rattle.flat_laws.proofs.Count.{one_sizes}
 use Rattle.flat_laws.proofs.Judged.{not_both, one_cause}
 use Rattle.flat_laws.proofs.Once.{gate_between}
@@ -87,48 +89,50 @@ module _ (d : Design) (w : Wiring) (u : Rule) (cell : ℕ) (s : Square) where
   ]
 
   -- then a terminal's node is one by either pair of edges
-  same_terminal : (e f a b : Edge) → R e a × R f b → (pole : Pole) (n : Node) → IsTerminalNode d w u cell s (TwoGroups a b) pole n → IsTerminalNode d w u cell s (TwoGroups e f) pole n
-  same_terminal e f a b h Source n (q, in_end, at) = (q, both (IsStep (InSide d w u cell s)) e.outer a.outer q h.0 in_end, at)
-  same_terminal e f a b h Drain n (q, in_end, at) = (q, both (IsStep (InSide d w u cell s)) f.outer b.outer q h.1 in_end, at)
-  same_terminal e f a b h Gate n t = t
-  same_terminal e f a b h Bulk n t = t
+  same_terminal : (e f a b : Edge) → R e a × R f b → (t : Terminal) (n : Node) → IsTerminalNode d w u cell s (TwoGroups a b) t n → IsTerminalNode d w u cell s (TwoGroups e f) t n
+  same_terminal e f a b h First n (q, in_end, at) = (q, both (IsStep (InSide d w u cell s)) e.outer a.outer q h.0 in_end, at)
+  same_terminal e f a b h Second n (q, in_end, at) = (q, both (IsStep (InSide d w u cell s)) f.outer b.outer q h.1 in_end, at)
+  same_terminal e f a b h (Other place) n i = i
 
-  same_poles : (form : Form) (x y : Ends) (m n k l : ℕ) → IsGoodForm form (sheets d w u cell) (InGate d (geometry w u) cell s) x m n → IsGoodForm form (sheets d w u cell) (InGate d (geometry w u) cell s) y k l
-      → IsSourceFirst d w u cell s x → IsSourceFirst d w u cell s y → (pole : Pole) (node : Node) → IsTerminalNode d w u cell s y pole node → IsTerminalNode d w u cell s x pole node
-  same_poles Beside (TwoGroups e f) (TwoGroups a b) m n k l h g first other pole node t = same_terminal e f a b (same_ends e f a b h.groups g.groups first other) pole node t
-  same_poles Beside (TwoGroups e f) Region m n k l h g first other pole node t = absurd g
-  same_poles Beside Region y m n k l h g first other pole node t = absurd h
-  same_poles Alone (TwoGroups e f) y m n k l h g first other pole node t = absurd h
-  same_poles Alone Region (TwoGroups a b) m n k l h g first other pole node t = absurd g
-  same_poles Alone Region Region m n k l h g first other pole node t = t
+  same_terminals : (form : Form) (x y : Sides) (m n k l : ℕ) → IsGoodForm form (sheets d w u cell) (InGate d (geometry w u) cell s) x m n → IsGoodForm form (sheets d w u cell) (InGate d (geometry w u) cell s) y k l
+      → IsSourceFirst d w u cell s x → IsSourceFirst d w u cell s y → (t : Terminal) (node : Node) → IsTerminalNode d w u cell s y t node → IsTerminalNode d w u cell s x t node
+  same_terminals Beside (TwoGroups e f) (TwoGroups a b) m n k l h g first other t node i = same_terminal e f a b (same_ends e f a b h.groups g.groups first other) t node i
+  same_terminals Beside (TwoGroups e f) Region m n k l h g first other t node i = absurd g
+  same_terminals Beside Region y m n k l h g first other t node i = absurd h
+  same_terminals Alone (TwoGroups e f) y m n k l h g first other t node i = absurd h
+  same_terminals Alone Region (TwoGroups a b) m n k l h g first other t node i = absurd g
+  same_terminals Alone Region Region m n k l h g first other t node i = i
 
-same_row : (a b : GateRow) → a.twice_w ≡ b.twice_w → a.twice_l ≡ b.twice_l → ((pole : Pole) → terminal_net pole a ≡ terminal_net pole b) → a ≡ b
-same_row a b w l nets =
-    let s : a.source ≡ b.source = nets Source in let g : a.gate ≡ b.gate = nets Gate in let d : a.drain ≡ b.drain = nets Drain in let k : a.bulk ≡ b.bulk = nets Bulk in
-    ap (λ v. let r : GateRow = record { twice_w = v; twice_l = a.twice_l; source = a.source; gate = a.gate; drain = a.drain; bulk = a.bulk } in r) w
-    ∙ ap (λ v. let r : GateRow = record { twice_w = b.twice_w; twice_l = v; source = a.source; gate = a.gate; drain = a.drain; bulk = a.bulk } in r) l
-    ∙ ap (λ v. let r : GateRow = record { twice_w = b.twice_w; twice_l = b.twice_l; source = v; gate = a.gate; drain = a.drain; bulk = a.bulk } in r) s
-    ∙ ap (λ v. let r : GateRow = record { twice_w = b.twice_w; twice_l = b.twice_l; source = b.source; gate = v; drain = a.drain; bulk = a.bulk } in r) g
-    ∙ ap (λ v. let r : GateRow = record { twice_w = b.twice_w; twice_l = b.twice_l; source = b.source; gate = b.gate; drain = v; bulk = a.bulk } in r) d
-    ∙ ap (λ v. let r : GateRow = record { twice_w = b.twice_w; twice_l = b.twice_l; source = b.source; gate = b.gate; drain = b.drain; bulk = v } in r) k
+abbrev row_with : DeviceKind → ℕ → ℕ → Ends ℕ → List ℕ → GateRow
+row_with k w l ends others = record { kind = k; twice_w = w; twice_l = l; ends = ends; others = others }
+
+-- rows with the same sizes that are one device of a rule are one
+same_row : (u : Rule) (a b : GateRow) → a.twice_w ≡ b.twice_w → a.twice_l ≡ b.twice_l → IsRowOver (λ x y. x ≡ y) (counted_device u a) (counted_device u b) → a ≡ b
+same_row u a b w l over =
+    let one : counted_device u a ≡ counted_device u b = sym (row_over_self (counted_device u a)) ∙ carried_row (λ x. x) (counted_device u a) (counted_device u b) over in
+    let ends : a.ends ≡ b.ends = ap (λ (r : Row ℕ). r.ends) one in
+    let others : a.others ≡ b.others = ap (λ (r : Row ℕ). r.others) one in
+    let kind : a.kind ≡ b.kind = over.kind in
+    let e : row_with a.kind a.twice_w a.twice_l a.ends a.others ≡ row_with b.kind b.twice_w b.twice_l b.ends b.others = cc in
+    e
 
 -- a gate has one verdict
 module _ (d : Design) (w : Wiring) (t : Tables) (height : ℕ → ℕ) (tables : AreTables d w t height) (u : Rule) (globals : (c g : ℕ) → ground_of c w.grounds ≡ Some g → g < length w.globals)
     (cell : ℕ) (reached : IsReached d cell) (s : Square) (settled : IsSettled d (geometry w u) cell s) where
   one_row : (a b : GateRow) → IsGateRow d w t u cell s a → IsGateRow d w t u cell s b → a ≡ b
   one_row a b h g =
-      let sizes = one_sizes d w u cell s h.ends g.ends a.twice_w a.twice_l b.twice_w b.twice_l h.good g.good in
-      same_row a b sizes.0 sizes.1 (λ pole.
-      let m = h.nets pole in
-      let n = g.nets pole in
-      let moved = same_poles d w u cell s (form_of u.kind) h.ends g.ends a.twice_w a.twice_l b.twice_w b.twice_l h.good g.good h.first g.first pole n.0 n.1 in
-      let region = terminals d w u cell s h.ends a.twice_w a.twice_l pole m.0 n.0 reached settled h.good (λ k e. let c = grounds d w u cell s h.ends pole k (subst (λ y. IsTerminalNode d w u cell s h.ends pole y) (sym e) m.1) in globals c.0 k c.1) m.1 moved in
-      ((regions d w t height tables cell reached).joined (terminal_net pole a) (terminal_net pole b) m.0 n.0 m.2 n.2).1 region.1)
+      let sizes = one_sizes d w u cell s h.sides g.sides a.twice_w a.twice_l b.twice_w b.twice_l h.good g.good in
+      same_row u a b sizes.0 sizes.1 (by_terminals (λ x y. x ≡ y) (counted_device u a) (counted_device u b) h.formed g.formed (h.kind ∙ sym g.kind) refl (let e = sizes.0 in let f = sizes.1 in cc) (λ place x y i j.
+      let m = h.nets place x i in
+      let n = g.nets place y j in
+      let moved = same_terminals d w u cell s (form_of u.kind) h.sides g.sides a.twice_w a.twice_l b.twice_w b.twice_l h.good g.good h.first g.first place n.0 n.1 in
+      let region = terminals d w u cell s h.sides a.twice_w a.twice_l place m.0 n.0 reached settled h.good (λ k e. let c = grounds d w u cell s h.sides place k (subst (λ y. IsTerminalNode d w u cell s h.sides place y) (sym e) m.1) in globals c.0 k c.1) m.1 moved in
+      ((regions d w t height tables cell reached).joined x y m.0 n.0 m.2 n.2).1 region.1))
 
   pub one_verdict : (a b : Verdict) → IsVerdict d w t u cell s a → IsVerdict d w t u cell s b → a ≡ b
   one_verdict (Good a) (Good b) h g = ap Good (one_row a b h g)
-  one_verdict (Good a) (Bad c) h g = absurd (not_both d w u cell s h.ends a.twice_w a.twice_l c h.good g)
-  one_verdict (Bad c) (Good a) g h = absurd (not_both d w u cell s h.ends a.twice_w a.twice_l c h.good g)
+  one_verdict (Good a) (Bad c) h g = absurd (not_both d w u cell s h.sides a.twice_w a.twice_l c h.good g)
+  one_verdict (Bad c) (Good a) g h = absurd (not_both d w u cell s h.sides a.twice_w a.twice_l c h.good g)
   one_verdict (Bad a) (Bad b) h g = ap Bad (one_cause d w u cell s a b h g)
 
 same_entry : (a b : GateEntry) → a.at.rule ≡ b.at.rule → a.at.square ≡ b.at.square → a.verdict ≡ b.verdict → a ≡ b
@@ -169,10 +173,12 @@ one_gates d r t cell v z sound right reached hv hz =
 -- over other right nets the entries are right too
 verdict_along : (d : Design) (w : Wiring) (s t : Tables) (u : Rule) (cell : ℕ) (q : Square) (v : Verdict) → ((x : ℕ) (n : Node) → NetHolds d s cell x n → NetHolds d t cell x n) → IsVerdict d w s u cell q v → IsVerdict d w t u cell q v
 verdict_along d w s t u cell q (Good row) holds h = record {
-  ends = h.ends;
+  sides = h.sides;
   good = h.good;
   first = h.first;
-  nets = λ pole. let n = h.nets pole in (n.0, n.1, holds (terminal_net pole row) n.0 n.2);
+  kind = h.kind;
+  formed = h.formed;
+  nets = λ place x i. let n = h.nets place x i in (n.0, n.1, holds x n.0 n.2);
 }
 verdict_along d w s t u cell q (Bad cause) holds h = h
 

@@ -33,7 +33,7 @@ alike d r s t g h sound rs rt gs ht = record {
 }
 
 pub has_gate : (g h : ℕ → List GateEntry) (cell x : ℕ) → g cell ≡ h cell → HasGate g cell x → HasGate h cell x
-has_gate g h cell x same (i, gate, at, pole, on) = (i, gate, subst (λ (l : List GateEntry). slice_get (good_gates l) i ≡ Some gate) same at, pole, on)
+has_gate g h cell x same (i, gate, at, on) = (i, gate, subst (λ (l : List GateEntry). slice_get (good_gates l) i ≡ Some gate) same at, on)
 
 -- pins of cells above that are the same
 module _ (d : Design) (w : Wiring) (s t : Tables) (g h : ℕ → List GateEntry) (a : AreAlike d s t g h) (p q : ℕ → CellPins) (cell : ℕ) (reached : IsReached d cell) (above : (e : ℕ) → IsAbove d e cell → p e ≡ q e) where

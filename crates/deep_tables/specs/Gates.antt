@@ -9,6 +9,7 @@ use Rattle.flat_layout.specs.GateTables as gates
 use Rattle.flat_layout.specs.Layout.{Design, IsReached}
 use Rattle.flat_layout.specs.Nets.{Tables}
 use Rattle.flat_layout.specs.Regions.{Wiring}
+use Rattle.net_model.specs.Rows.{ends_in, others_in}
 use Rattle.rule_text.specs.Rules.{Rules}
 use Rattle.rule_layers.specs.Meaning.{device_rules, mos_rules, wiring_of}
 use Rattle.deep_tables.specs.Entries.{entry, AreEntries}
@@ -20,8 +21,13 @@ use Rattle.deep_tables.specs.declared.gates.GateState.TheVariants.{Good, Bad}
 
 -- gates as plain values
 abbrev pub plain_state : GateState → Verdict
-plain_state (Good w l s d g b) = gates.Good
-    (record { twice_w = w; twice_l = l; source = s; gate = g; drain = d; bulk = b })
+plain_state (Good kind w l nets) = gates.Good (record {
+  kind = kind;
+  twice_w = w;
+  twice_l = l;
+  ends = ends_in kind nets;
+  others = others_in kind nets;
+})
 plain_state (Bad cause) = gates.Bad cause
 
 abbrev pub plain_gate : Gate → GateEntry

@@ -1,7 +1,8 @@
 //! Gates of cells.
 ghost use Rattle.std.specs.Prelude.{◌≡◌, IfOk, IsSome, Some};
 ghost use Rattle.deep_tables.specs.Entries.{entry, IsUpward};
-ghost use Rattle.deep_tables.specs.Gates.{list_of};
+ghost use Rattle.deep_tables.specs.Gates.{list_of, plain_state};
+ghost use Rattle.flat_layout.specs.GateTables.{verdict_nets};
 
 use crate::keys::GateKey;
 use crate::table::Table;
@@ -10,22 +11,21 @@ use flat_layout::GateCause;
 use geo_base::Square;
 use job_graph::{Defined, Results};
 use net_names::Name;
+use plain_netlist::DeviceKind;
 use rect_sets::RectSet;
 use std::alloc::{AllocError, Global};
 use std::marker::Model;
 
-/// A good gate has twice its width and twice its length, in sides of unit squares, and the nets of
-/// its terminals.
-/// Its source is the group with the least square.
+/// A good gate has the kind of its rule, twice its width and twice its length, in sides of unit
+/// squares, and the nets of its terminals, in the order of a netlist's `DeviceRow`. Its first end,
+/// of a transistor the source, is the group with the least square.
 #[derive(Clone, Copy, Debug, PartialEq, Eq)]
 pub enum GateState {
     Good {
+        kind: DeviceKind,
         twice_w: u128,
         twice_l: u128,
-        source: u32,
-        drain: u32,
-        gate: u32,
-        bulk: u32,
+        nets: [u32; 4],
     },
     Bad(GateCause),
 }
@@ -38,6 +38,18 @@ pub struct Gate {
     pub area: RectSet,
     pub least: Square,
     pub state: GateState,
+}
+
+impl Gate {
+    /// The nets of a good gate's terminals, in the order of a netlist's `DeviceRow`. Constant time.
+    pub fn terminal_nets(&self) -> &[u32]
+        ensures { result.now ≡ verdict_nets (plain_state self.now.state) }
+    {
+        match &self.state {
+            GateState::Good { kind, nets, .. } => &nets[..kind.terminals()],
+            GateState::Bad(_) => &[],
+        }
+    }
 }
 
 /// The gates of a cell's own list, by device rule, then least square.

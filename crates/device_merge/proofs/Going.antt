@@ -6,6 +6,7 @@ use Rattle.fixed_num.specs.declared.femto.Femto.{Femto}
 use Rattle.net_model.specs.declared.netlist.DeviceRow.{DeviceRow as Held}
 use Rattle.plain_netlist.specs.Netlist.{DeviceRow}
 use Rattle.merge_laws.specs.Grouped.{Group, Placed, are_wide, grouped, groups, is_wide, merged_row, with_device}
+use Rattle.merge_laws.specs.Merge.{width_of, with_added}
 use Rattle.device_merge.specs.Keys.{AreKeys, lone, place_of}
 use Rattle.net_model.specs.Rows.{plain_device}
 use Rattle.device_merge.specs.Merging.{IsMerging, placed, width_at, widened}
@@ -20,52 +21,48 @@ pub as_many_rows : (m : Merging) (gs : List Group) → IsMerging m gs → length
 as_many_rows m gs h = sym (map_count plain_device m.rows.items) ∙ ap (λ (rs : List DeviceRow). length rs) h.rows ∙ map_count merged_row gs
 
 -- the row at a place, and with another width
-pub width_here : (rows : List Held) (i : ℕ) (d : Held) → i < length rows → width_at i (map plain_device rows) ≡ (slice_index_or rows i d).width.0
+second_set : (sizes : List Femto) (f : Femto) → map (λ (g : Femto). g.0) (slice_set sizes 1 f) ≡ with_added (map (λ (g : Femto). g.0) sizes) f.0
+second_set [] f = refl
+second_set (a ∷ []) f = refl
+second_set (a ∷ b ∷ more) f = refl
+
+pub width_here : (rows : List Held) (i : ℕ) (d : Held) → i < length rows → width_at i (map plain_device rows) ≡ width_of (plain_device (slice_index_or rows i d))
 width_here [] i d low = absurd (omega arith)
 width_here (r ∷ rs) zero d low = refl
 width_here (r ∷ rs) (suc i) d low = width_here rs i d (omega arith)
 
-pub widened_here : (rows : List Held) (i : ℕ) (d : Held) (w : Femto) (n : ℕ) → i < length rows → w.0 ≡ (slice_index_or rows i d).width.0 + n
-    → map plain_device (slice_set rows i (record {
-      class = (slice_index_or rows i d).class;
-      length = (slice_index_or rows i d).length;
-      width = w;
-      source = (slice_index_or rows i d).source;
-      gate = (slice_index_or rows i d).gate;
-      drain = (slice_index_or rows i d).drain;
-      bulk = (slice_index_or rows i d).bulk;
-    })) ≡ widened i n (map plain_device rows)
+-- a row with another second size
+abbrev pub with_second : Held → Femto → Held
+with_second r w = record { kind = r.kind; class = r.class; sizes = slice_set r.sizes 1 w; nets = r.nets }
+
+pub widened_here : (rows : List Held) (i : ℕ) (d : Held) (w : Femto) (n : ℕ) → i < length rows → w.0 ≡ width_at i (map plain_device rows) + n
+    → map plain_device (slice_set rows i (with_second (slice_index_or rows i d) w)) ≡ widened i n (map plain_device rows)
 widened_here [] i d w n low e = absurd (omega arith)
-widened_here (r ∷ rs) zero d w n low e = ap (λ (v : ℕ). record {
-  class = r.class;
-  length = r.length.0;
-  width = v;
-  source = r.source;
-  gate = r.gate;
-  drain = r.drain;
-  bulk = r.bulk;
-} ∷ map plain_device rs) e
+widened_here (r ∷ rs) zero d w n low e =
+    let row = plain_device r in
+    ap (λ (ss : List ℕ). let made : DeviceRow = record { kind = row.kind; class = row.class; sizes = ss; ends = row.ends; others = row.others } in made ∷ map plain_device rs)
+    (second_set r.sizes w ∙ ap (λ (v : ℕ). with_added row.sizes v) e)
 widened_here (r ∷ rs) (suc i) d w n low e = ap (λ (xs : List DeviceRow). plain_device r ∷ xs) (widened_here rs i d w n (omega arith) e)
 
 -- a transistor that joins a group
-pub joined_merging : (old new : Merging) (gs : List Group) (d : Placed) (p : ℕ) → IsMerging old gs → p ≡ place_of gs d.row → p < length old.rows.items
-    → map plain_device new.rows.items ≡ widened p d.row.width (map plain_device old.rows.items) → new.keys ≡ old.keys
-    → width_at p (map plain_device old.rows.items) + d.row.width ≤ 10 ^ 27 → IsMerging new (with_device gs d)
-joined_merging old new gs d p h at low rows keys fits =
+pub joined_merging : (old new : Merging) (gs : List Group) (d : Placed) (p : ℕ) → length d.row.sizes ≡ 2 → IsMerging old gs → p ≡ place_of gs d.row → p < length old.rows.items
+    → map plain_device new.rows.items ≡ widened p (width_of d.row) (map plain_device old.rows.items) → new.keys ≡ old.keys
+    → width_at p (map plain_device old.rows.items) + width_of d.row ≤ 10 ^ 27 → IsMerging new (with_device gs d)
+joined_merging old new gs d p two h at low rows keys fits =
     let count : length old.rows.items ≡ length gs = as_many_rows old gs h in
     let inside : place_of gs d.row < length gs = omega arith in
     record {
-      rows = rows ∙ ap (λ (rs : List DeviceRow). widened p d.row.width rs) h.rows ∙ ap (λ (k : ℕ). widened k d.row.width (map merged_row gs)) at ∙ sym (joins gs d inside);
+      rows = rows ∙ ap (λ (rs : List DeviceRow). widened p (width_of d.row) rs) h.rows ∙ ap (λ (k : ℕ). widened k (width_of d.row) (map merged_row gs)) at ∙ sym (joins gs d inside);
       keys = subst (λ (ks : List DeviceKey). AreKeys 0 ks (with_device gs d)) (sym keys) (keys_stay 0 old.keys gs d h.keys inside);
-      narrow = narrow_joined gs d h.narrow inside
-          (subst (λ (k : ℕ). width_at k (map merged_row gs) + d.row.width ≤ 10 ^ 27) at (subst (λ (rs : List DeviceRow). width_at p rs + d.row.width ≤ 10 ^ 27) h.rows fits));
+      narrow = narrow_joined gs d two h.narrow inside
+          (subst (λ (k : ℕ). width_at k (map merged_row gs) + width_of d.row ≤ 10 ^ 27) at (subst (λ (rs : List DeviceRow). width_at p rs + width_of d.row ≤ 10 ^ 27) h.rows fits));
     }
 
-pub joined_wide : (old : Merging) (gs : List Group) (d : Placed) (p : ℕ) → IsMerging old gs → p ≡ place_of gs d.row → p < length old.rows.items
-    → 10 ^ 27 < width_at p (map plain_device old.rows.items) + d.row.width → are_wide (with_device gs d) ≡ true
-joined_wide old gs d p h at low wide =
+pub joined_wide : (old : Merging) (gs : List Group) (d : Placed) (p : ℕ) → length d.row.sizes ≡ 2 → IsMerging old gs → p ≡ place_of gs d.row → p < length old.rows.items
+    → 10 ^ 27 < width_at p (map plain_device old.rows.items) + width_of d.row → are_wide (with_device gs d) ≡ true
+joined_wide old gs d p two h at low wide =
     let count : length old.rows.items ≡ length gs = as_many_rows old gs h in
-    wide_joined gs d (omega arith) (subst (λ (k : ℕ). 10 ^ 27 < width_at k (map merged_row gs) + d.row.width) at (subst (λ (rs : List DeviceRow). 10 ^ 27 < width_at p rs + d.row.width) h.rows wide))
+    wide_joined gs d two (omega arith) (subst (λ (k : ℕ). 10 ^ 27 < width_at k (map merged_row gs) + width_of d.row) at (subst (λ (rs : List DeviceRow). 10 ^ 27 < width_at p rs + width_of d.row) h.rows wide))
 
 -- the place of a group is at most their number
 place_within : (gs : List Group) (row : DeviceRow) → place_of gs row ≤ length gs

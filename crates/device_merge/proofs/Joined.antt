@@ -2,11 +2,14 @@
 use Rattle.std.proofs.Common.{◌≡◌, ◌<◌, ◌≤◌, ◌+◌, ◌^◌, ℕ, suc, Bool, true, false, ◌&&◌, ◌||◌, nat_lt, cond, List, [], ◌∷◌, ◌++◌, map, length, refl, ap, ◌∙◌, sym, subst, arith, true≢false}
 use Rattle.base_laws.proofs.Lists.{map_last}
 use Rattle.base_laws.proofs.Tests.{or_true}
-use Rattle.std.proofs.lemmas.Bool.{or_from, or_parts}
-use Rattle.std.specs.Prelude.{not}
+use Rattle.std.proofs.lemmas.Bool.{and_parts, or_from, or_parts}
+use Rattle.std.proofs.lemmas.Slice.Eq.{bytes_eq-Decides}
+use Rattle.std.specs.Prelude.{not, bytes_eq}
+use Rattle.plain_netlist.specs.Kinds.{same_device_kind}
+use Rattle.plain_netlist.specs.Devices.{exchanged}
 use Rattle.plain_netlist.specs.Netlist.{DeviceRow}
-use Rattle.merge_laws.specs.Grouped.{Group, Placed, are_wide, grouped, is_alike, is_wide, members, merged_row, sum_width, with_device}
-use Rattle.merge_laws.specs.Merge.{may_merge}
+use Rattle.merge_laws.specs.Grouped.{Group, Placed, are_wide, grouped, is_alike, is_wide, members, merged_row, same_ends, sum_width, with_device}
+use Rattle.merge_laws.specs.Merge.{added_size, may_merge_row, width_of, with_added, with_width}
 use Rattle.device_merge.specs.Keys.{AreKeys, lone, place_of}
 use Rattle.device_merge.specs.Merging.{placed, wider, width_at, widened}
 use Rattle.device_merge.specs.declared.keys.DeviceKey.{DeviceKey}
@@ -14,32 +17,51 @@ use Rattle.device_merge.specs.declared.keys.DeviceKey.{DeviceKey}
 abbrev pub joined : Group → Placed → Group
 joined g d = record { first = g.first; others = g.others ++ d ∷ [] }
 
-sum_more : (ds : List Placed) (d : Placed) → sum_width (ds ++ d ∷ []) ≡ sum_width ds + d.row.width
+sum_more : (ds : List Placed) (d : Placed) → sum_width (ds ++ d ∷ []) ≡ sum_width ds + width_of d.row
 sum_more [] d = omega arith
 sum_more (e ∷ ds) d = let rest = sum_more ds d in omega arith
 
-row_joined : (g : Group) (d : Placed) → merged_row (joined g d) ≡ wider d.row.width (merged_row g)
-row_joined g d = ap (λ (w : ℕ). record {
-  class = g.first.row.class;
-  length = g.first.row.length;
-  width = w;
-  source = g.first.row.source;
-  gate = g.first.row.gate;
-  drain = g.first.row.drain;
-  bulk = g.first.row.bulk;
-}) (sum_more (members g) d)
+-- a width in place of another
+by_width : (r : DeviceRow) (v w : ℕ) → with_width r (v + w) ≡ wider w (with_width r v)
+by_width r v w = ap (λ (ss : List ℕ). record { kind = r.kind; class = r.class; sizes = ss; ends = r.ends; others = r.others }) (at r.sizes)
+  where
+    at : (sizes : List ℕ) → with_added sizes (v + w) ≡ with_added (with_added sizes v) (added_size (with_added sizes v) + w)
+    at [] = refl
+    at (a ∷ []) = refl
+    at (a ∷ b ∷ more) = refl
+
+-- its own
+same_width : (r : DeviceRow) → with_width r (width_of r + 0) ≡ r
+same_width r = ap (λ (ss : List ℕ). record { kind = r.kind; class = r.class; sizes = ss; ends = r.ends; others = r.others }) (at r.sizes)
+  where
+    at : (sizes : List ℕ) → with_added sizes (added_size sizes + 0) ≡ sizes
+    at [] = refl
+    at (a ∷ []) = refl
+    at (a ∷ b ∷ more) = ap (λ (w : ℕ). a ∷ w ∷ more) (omega arith)
+
+-- of two sizes the second is the width
+width_is : (r : DeviceRow) (w : ℕ) → length r.sizes ≡ 2 → width_of (with_width r w) ≡ w
+width_is r w e = at r.sizes e
+  where
+    at : (sizes : List ℕ) → length sizes ≡ 2 → added_size (with_added sizes w) ≡ w
+    at (a ∷ b ∷ more) e = refl
+    at [] e = absurd (omega (arith, e))
+    at (a ∷ []) e = absurd (omega (arith, e))
+
+row_joined : (g : Group) (d : Placed) → merged_row (joined g d) ≡ wider (width_of d.row) (merged_row g)
+row_joined g d = ap (λ (w : ℕ). with_width g.first.row w) (sum_more (members g) d) ∙ by_width g.first.row (sum_width (members g)) (width_of d.row)
 
 one_more : (n : ℕ) → suc n ≡ 1 + n
 one_more n = omega arith
 
-pub joins : (gs : List Group) (d : Placed) → place_of gs d.row < length gs → map merged_row (with_device gs d) ≡ widened (place_of gs d.row) d.row.width (map merged_row gs)
+pub joins : (gs : List Group) (d : Placed) → place_of gs d.row < length gs → map merged_row (with_device gs d) ≡ widened (place_of gs d.row) (width_of d.row) (map merged_row gs)
 joins [] d low = absurd (omega arith)
 joins (g ∷ gs) d low = at (is_alike g.first.row d.row) low (joins gs d)
   where
-    at : (b : Bool) → cond (not b) (1 + place_of gs d.row) 0 < suc (length gs) → (place_of gs d.row < length gs → map merged_row (with_device gs d) ≡ widened (place_of gs d.row) d.row.width (map merged_row gs))
-        → map merged_row (cond b (joined g d ∷ gs) (g ∷ with_device gs d)) ≡ widened (cond (not b) (1 + place_of gs d.row) 0) d.row.width (merged_row g ∷ map merged_row gs)
+    at : (b : Bool) → cond (not b) (1 + place_of gs d.row) 0 < suc (length gs) → (place_of gs d.row < length gs → map merged_row (with_device gs d) ≡ widened (place_of gs d.row) (width_of d.row) (map merged_row gs))
+        → map merged_row (cond b (joined g d ∷ gs) (g ∷ with_device gs d)) ≡ widened (cond (not b) (1 + place_of gs d.row) 0) (width_of d.row) (merged_row g ∷ map merged_row gs)
     at true h rec = ap (λ (r : DeviceRow). r ∷ map merged_row gs) (row_joined g d)
-    at false h rec = subst (λ (k : ℕ). merged_row g ∷ map merged_row (with_device gs d) ≡ widened k d.row.width (merged_row g ∷ map merged_row gs)) (one_more (place_of gs d.row))
+    at false h rec = subst (λ (k : ℕ). merged_row g ∷ map merged_row (with_device gs d) ≡ widened k (width_of d.row) (merged_row g ∷ map merged_row gs)) (one_more (place_of gs d.row))
         (ap (λ (rs : List DeviceRow). merged_row g ∷ rs) (rec (omega arith)))
 
 pub begins : (gs : List Group) (d : Placed) → place_of gs d.row ≡ length gs → with_device gs d ≡ gs ++ lone d.place d.row ∷ []
@@ -62,12 +84,12 @@ keys_stay n (key ∷ keys) (g ∷ gs) d h low = at (is_alike g.first.row d.row) 
 keys_stay n [] (g ∷ gs) d h low = absurd h
 keys_stay n (key ∷ keys) [] d h low = absurd h
 
-merges : (a b : DeviceRow) → is_alike a b ≡ true → may_merge a.class ≡ true
-merges a b e = first (may_merge a.class) _ _ _ _ _ e
+merges : (a b : DeviceRow) → is_alike a b ≡ true → may_merge_row a ≡ true
+merges a b e = first (may_merge_row a) _ _ _ _ _ e
   where
-    first : (m c l g b h : Bool) → (m && c && l && g && b && h) ≡ true → m ≡ true
-    first true c l g b h e = refl
-    first false c l g b h e = e
+    first : (m k c s o h : Bool) → (m && k && c && s && o && h) ≡ true → m ≡ true
+    first true k c s o h e = refl
+    first false k c s o h e = e
 
 -- wide exactly by its width, where its class may merge
 pub past : (m : Bool) (w : ℕ) → m ≡ true → 10 ^ 27 < w → (m && nat_lt (10 ^ 27) w) ≡ true
@@ -77,29 +99,58 @@ pub within : (m : Bool) (w : ℕ) → w ≤ 10 ^ 27 → (m && nat_lt (10 ^ 27) w
 within true w h = grind (arith, h)
 within false w h = refl
 
-pub wide_joined : (gs : List Group) (d : Placed) → place_of gs d.row < length gs → 10 ^ 27 < width_at (place_of gs d.row) (map merged_row gs) + d.row.width → are_wide (with_device gs d) ≡ true
-wide_joined [] d low wide = absurd (omega arith)
-wide_joined (g ∷ gs) d low wide = at (is_alike g.first.row d.row) refl low wide (wide_joined gs d)
+-- alike devices have as many sizes
+alike_sized : (a b : DeviceRow) → is_alike a b ≡ true → length b.sizes ≡ 2 → length a.sizes ≡ 2
+alike_sized a b e two =
+    let m = may_merge_row a in let k = same_device_kind a.kind b.kind in let c = bytes_eq a.class b.class in
+    let s = bytes_eq (with_added a.sizes 0) (with_added b.sizes 0) in let o = bytes_eq a.others b.others in
+    let h = same_ends a.ends b.ends || same_ends a.ends (exchanged b.ends) in
+    let all = (and_parts (m && k && c) s (and_parts (m && k && c && s) o (and_parts (m && k && c && s && o) h e).0).0).1 in
+    let same = (bytes_eq-Decides (with_added a.sizes 0) (with_added b.sizes 0)).0 all in
+    sym (added_length a.sizes) ∙ ap (λ (xs : List ℕ). length xs) same ∙ added_length b.sizes ∙ two
   where
-    at : (b : Bool) → is_alike g.first.row d.row ≡ b → cond (not b) (1 + place_of gs d.row) 0 < suc (length gs) → 10 ^ 27 < width_at (cond (not b) (1 + place_of gs d.row) 0) (merged_row g ∷ map merged_row gs) + d.row.width
-        → (place_of gs d.row < length gs → 10 ^ 27 < width_at (place_of gs d.row) (map merged_row gs) + d.row.width → are_wide (with_device gs d) ≡ true)
-        → are_wide (cond b (joined g d ∷ gs) (g ∷ with_device gs d)) ≡ true
-    at true e l w rec = ap (λ (b : Bool). b || are_wide gs) (past (may_merge g.first.row.class) (sum_width (members g ++ d ∷ [])) (merges g.first.row d.row e) (rw (sum_more (members g) d) w))
-    at false e l w rec = ap (λ (b : Bool). is_wide (merged_row g) || b) (rec (omega arith) (subst (λ (k : ℕ). 10 ^ 27 < width_at k (merged_row g ∷ map merged_row gs) + d.row.width) (sym (one_more (place_of gs d.row))) w)) ∙ or_true (is_wide (merged_row g))
+    added_length : (sizes : List ℕ) → length (with_added sizes 0) ≡ length sizes
+    added_length [] = refl
+    added_length (x ∷ []) = refl
+    added_length (x ∷ y ∷ more) = refl
 
-pub narrow_joined : (gs : List Group) (d : Placed) → are_wide gs ≡ false → place_of gs d.row < length gs → width_at (place_of gs d.row) (map merged_row gs) + d.row.width ≤ 10 ^ 27 → are_wide (with_device gs d) ≡ false
-narrow_joined [] d none low fits = absurd (omega arith)
-narrow_joined (g ∷ gs) d none low fits = at (is_alike g.first.row d.row) low fits (narrow_joined gs d ((or_parts _ _ none).1))
+-- the width of a group that one more joins
+joined_is : (g : Group) (d : Placed) → is_alike g.first.row d.row ≡ true → length d.row.sizes ≡ 2 → width_of (merged_row (joined g d)) ≡ width_of (merged_row g) + width_of d.row
+joined_is g d alike size =
+    let two = alike_sized g.first.row d.row alike size in
+    let sum = sum_more (members g) d in
+    let old = width_is g.first.row (sum_width (members g)) two in
+    width_is g.first.row (sum_width (members g ++ d ∷ [])) two ∙ omega (arith, sum, old)
+
+joined_width : (g : Group) (d : Placed) → is_alike g.first.row d.row ≡ true → length d.row.sizes ≡ 2 → 10 ^ 27 < width_of (merged_row g) + width_of d.row → 10 ^ 27 < width_of (merged_row (joined g d))
+joined_width g d alike two w = subst (λ (n : ℕ). 10 ^ 27 < n) (sym (joined_is g d alike two)) w
+
+joined_low : (g : Group) (d : Placed) → is_alike g.first.row d.row ≡ true → length d.row.sizes ≡ 2 → width_of (merged_row g) + width_of d.row ≤ 10 ^ 27 → width_of (merged_row (joined g d)) ≤ 10 ^ 27
+joined_low g d alike two w = subst (λ (n : ℕ). n ≤ 10 ^ 27) (sym (joined_is g d alike two)) w
+
+pub wide_joined : (gs : List Group) (d : Placed) → length d.row.sizes ≡ 2 → place_of gs d.row < length gs → 10 ^ 27 < width_at (place_of gs d.row) (map merged_row gs) + width_of d.row → are_wide (with_device gs d) ≡ true
+wide_joined [] d two low wide = absurd (omega arith)
+wide_joined (g ∷ gs) d two low wide = at (is_alike g.first.row d.row) refl low wide (wide_joined gs d two)
   where
-    at : (b : Bool) → cond (not b) (1 + place_of gs d.row) 0 < suc (length gs) → width_at (cond (not b) (1 + place_of gs d.row) 0) (merged_row g ∷ map merged_row gs) + d.row.width ≤ 10 ^ 27
-        → (place_of gs d.row < length gs → width_at (place_of gs d.row) (map merged_row gs) + d.row.width ≤ 10 ^ 27 → are_wide (with_device gs d) ≡ false)
+    at : (b : Bool) → is_alike g.first.row d.row ≡ b → cond (not b) (1 + place_of gs d.row) 0 < suc (length gs) → 10 ^ 27 < width_at (cond (not b) (1 + place_of gs d.row) 0) (merged_row g ∷ map merged_row gs) + width_of d.row
+        → (place_of gs d.row < length gs → 10 ^ 27 < width_at (place_of gs d.row) (map merged_row gs) + width_of d.row → are_wide (with_device gs d) ≡ true)
+        → are_wide (cond b (joined g d ∷ gs) (g ∷ with_device gs d)) ≡ true
+    at true e l w rec = ap (λ (b : Bool). b || are_wide gs) (past (may_merge_row g.first.row) (width_of (merged_row (joined g d))) (merges g.first.row d.row e) (joined_width g d e two w))
+    at false e l w rec = ap (λ (b : Bool). is_wide (merged_row g) || b) (rec (omega arith) (subst (λ (k : ℕ). 10 ^ 27 < width_at k (merged_row g ∷ map merged_row gs) + width_of d.row) (sym (one_more (place_of gs d.row))) w)) ∙ or_true (is_wide (merged_row g))
+
+pub narrow_joined : (gs : List Group) (d : Placed) → length d.row.sizes ≡ 2 → are_wide gs ≡ false → place_of gs d.row < length gs → width_at (place_of gs d.row) (map merged_row gs) + width_of d.row ≤ 10 ^ 27 → are_wide (with_device gs d) ≡ false
+narrow_joined [] d two none low fits = absurd (omega arith)
+narrow_joined (g ∷ gs) d two none low fits = at (is_alike g.first.row d.row) refl low fits (narrow_joined gs d two ((or_parts _ _ none).1))
+  where
+    at : (b : Bool) → is_alike g.first.row d.row ≡ b → cond (not b) (1 + place_of gs d.row) 0 < suc (length gs) → width_at (cond (not b) (1 + place_of gs d.row) 0) (merged_row g ∷ map merged_row gs) + width_of d.row ≤ 10 ^ 27
+        → (place_of gs d.row < length gs → width_at (place_of gs d.row) (map merged_row gs) + width_of d.row ≤ 10 ^ 27 → are_wide (with_device gs d) ≡ false)
         → are_wide (cond b (joined g d ∷ gs) (g ∷ with_device gs d)) ≡ false
-    at true l w rec = or_from _ _ (within (may_merge g.first.row.class) (sum_width (members g ++ d ∷ [])) (rw (sum_more (members g) d) w)) ((or_parts _ _ none).1)
-    at false l w rec = or_from _ _ ((or_parts _ _ none).0) (rec (omega arith) (subst (λ (k : ℕ). width_at k (merged_row g ∷ map merged_row gs) + d.row.width ≤ 10 ^ 27) (sym (one_more (place_of gs d.row))) w))
+    at true e l w rec = or_from _ _ (within (may_merge_row g.first.row) (width_of (merged_row (joined g d))) (joined_low g d e two w)) ((or_parts _ _ none).1)
+    at false e l w rec = or_from _ _ ((or_parts _ _ none).0) (rec (omega arith) (subst (λ (k : ℕ). width_at k (merged_row g ∷ map merged_row gs) + width_of d.row ≤ 10 ^ 27) (sym (one_more (place_of gs d.row))) w))
 
 -- a transistor alone is as wide as it is
 lone_wide : (place : ℕ) (row : DeviceRow) → is_wide (merged_row (lone place row)) ≡ is_wide row
-lone_wide place row = ap (λ (w : ℕ). may_merge row.class && nat_lt (10 ^ 27) w) (omega arith)
+lone_wide place row = ap is_wide (same_width row)
 
 pub begun_wide : (gs : List Group) (place : ℕ) (row : DeviceRow) → are_wide (gs ++ lone place row ∷ []) ≡ (are_wide gs || is_wide row)
 begun_wide [] place row = ap (λ (b : Bool). b || false) (lone_wide place row) ∙ last (is_wide row)
@@ -112,6 +163,11 @@ begun_wide (g ∷ gs) place row = ap (λ (b : Bool). is_wide (merged_row g) || b
     through : (a b c : Bool) → (a || (b || c)) ≡ ((a || b) || c)
     through true b c = refl
     through false b c = refl
+
+wider_grows : (sizes : List ℕ) (v w : ℕ) → v ≤ w → added_size (with_added sizes v) ≤ added_size (with_added sizes w)
+wider_grows [] v w h = omega arith
+wider_grows (a ∷ []) v w h = omega arith
+wider_grows (a ∷ b ∷ more) v w h = h
 
 -- what is too wide stays so
 pub wide_stays : (gs : List Group) (d : Placed) → are_wide gs ≡ true → are_wide (with_device gs d) ≡ true
@@ -132,7 +188,7 @@ wide_stays (g ∷ gs) d wide = at (is_alike g.first.row d.row) (wide_stays gs d)
     rest false b c e f = f e
 
     at : (b : Bool) → (are_wide gs ≡ true → are_wide (with_device gs d) ≡ true) → are_wide (g ∷ gs) ≡ true → are_wide (cond b (joined g d ∷ gs) (g ∷ with_device gs d)) ≡ true
-    at true rec w = here _ _ _ w (more (may_merge g.first.row.class) (sum_width (members g)) (sum_width (members g ++ d ∷ [])) (let e = sum_more (members g) d in omega arith))
+    at true rec w = here _ _ _ w (more (may_merge_row g.first.row) (width_of (merged_row g)) (width_of (merged_row (joined g d))) (wider_grows g.first.row.sizes (sum_width (members g)) (sum_width (members g ++ d ∷ [])) (let e = sum_more (members g) d in omega arith)))
     at false rec w = rest _ _ _ w rec
 
 pub wide_all : (gs : List Group) (place : ℕ) (rows : List DeviceRow) → are_wide gs ≡ true → are_wide (grouped gs place rows) ≡ true
@@ -140,15 +196,7 @@ wide_all gs place [] wide = wide
 wide_all gs place (row ∷ rows) wide = wide_all (with_device gs (placed place row)) (suc place) rows (wide_stays gs (placed place row) wide)
 
 lone_row : (place : ℕ) (row : DeviceRow) → merged_row (lone place row) ≡ row
-lone_row place row = ap (λ (w : ℕ). record {
-  class = row.class;
-  length = row.length;
-  width = w;
-  source = row.source;
-  gate = row.gate;
-  drain = row.drain;
-  bulk = row.bulk;
-}) (omega arith)
+lone_row place row = same_width row
 
 pub begun_rows : (gs : List Group) (place : ℕ) (row : DeviceRow) → map merged_row (gs ++ lone place row ∷ []) ≡ map merged_row gs ++ row ∷ []
 begun_rows gs place row = map_last merged_row gs (lone place row) ∙ ap (λ (r : DeviceRow). map merged_row gs ++ r ∷ []) (lone_row place row)

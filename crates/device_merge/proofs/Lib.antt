@@ -1,3 +1,4 @@
+pub mod Sizes
 pub mod Alike
 pub mod Going
 pub mod Joined

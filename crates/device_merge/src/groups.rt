@@ -1,26 +1,28 @@
-//! A circuit's transistors, each group of alike ones as one.
+//! A circuit's devices, each group of alike ones as one.
 
-ghost use Rattle.std.specs.Prelude.{◌≡◌, ◌<◌, ◌≤◌, ◌+◌, ◌^◌, ℕ, true, false, IfOk, IfSome, List, MatchOption, length, map};
+ghost use Rattle.std.specs.Prelude.{◌≡◌, ◌<◌, ◌≤◌, ◌+◌, ◌^◌, ℕ, true, false, IfOk, IfSome, List};
+ghost use Rattle.std.specs.Prelude.{MatchOption, length, map};
 ghost use Rattle.merge_laws.specs.Grouped.{Group, are_wide, with_device};
+ghost use Rattle.merge_laws.specs.Merge.{width_of};
 ghost use Rattle.net_model.specs.Rows.{plain_device};
 ghost use Rattle.device_merge.specs.Merging.{IsMerged, IsMerging, placed, width_at, widened};
 
-use crate::keys::{Keys, may_merge};
+use crate::keys::{Keys, kept_and_added, may_merge};
 use fixed_num::Femto;
 use net_model::DeviceRow;
 use std::alloc::{AllocError, Global};
 
-// The widest that alike transistors may be in all, in femtometres.
+// The widest that alike devices may be in all, in femtometres.
 const WIDEST: u128 = 1_000_000_000_000_000_000_000_000_000;
 
-// The transistors so far.
+// The devices so far.
 #[derive(Drop)]
 struct Merging<'a> {
     rows: Vec<DeviceRow>,
     keys: Keys<'a>,
 }
 
-// The width of two transistors, if it is at most the widest.
+// The width of two devices, if it is at most the widest.
 fn both(one: Femto, other: Femto) -> Option<Femto>
     ensures sum { MatchOption result (10 ^ 27 < one.0 + other.0) (λ w. w.0 ≡ one.0 + other.0) }
     ensures narrow { IfSome result (λ w. w.0 ≤ 10 ^ 27) }
@@ -31,7 +33,16 @@ fn both(one: Femto, other: Femto) -> Option<Femto>
     }
 }
 
-// The transistor at the place with another's width beside its own; false where that is too wide.
+// The size that adds when alike devices become one: of a transistor the width.
+fn width_of(row: &DeviceRow) -> Femto
+    ensures width { result.0 ≡ width_of (plain_device row.now) }
+    ensures sizes { length (plain_device row.now).sizes ≡ 2 }
+{
+    let (_, width) = kept_and_added(row.sizes);
+    width
+}
+
+// The device at the place with another's width beside its own; false where that is too wide.
 fn widen(rows: &mut [DeviceRow], place: usize, width: Femto) -> bool
     requires { place < length rows.old }
     ensures done { result ≡ true
@@ -42,9 +53,9 @@ fn widen(rows: &mut [DeviceRow], place: usize, width: Femto) -> bool
     ensures wide { result ≡ false
         → 10 ^ 27 < width_at place (map plain_device rows.old) + width.0 }
 {
-    match both(rows[place].width, width) {
+    match both(width_of(&rows[place]), width) {
         Some(width) => {
-            rows[place].width = width;
+            rows[place].sizes[1] = width;
             true
         }
         None => false,
@@ -52,7 +63,7 @@ fn widen(rows: &mut [DeviceRow], place: usize, width: Femto) -> bool
 }
 
 impl<'a> Merging<'a> {
-    // Adds a transistor to the group of those alike to it, or as a group of its own; false where
+    // Adds a device to the group of those alike to it, or as a group of its own; false where
     // that is too wide.
     fn add(&mut self, alloc: Global, row: &'a DeviceRow) -> Result<bool, AllocError>
         ensures added { IfOk result (λ fits. fits ≡ true → (gs : List Group) (place : ℕ)
@@ -62,11 +73,12 @@ impl<'a> Merging<'a> {
             → IsMerging self.old gs
             → are_wide (with_device gs (placed place (plain_device row.now))) ≡ true) }
     {
+        let width = width_of(row);
         let place = self.keys.place(row);
         if place < self.rows.len() {
-            return Ok(widen(&mut self.rows, place, row.width));
+            return Ok(widen(&mut self.rows, place, width));
         }
-        if may_merge(row.class.bytes()) && row.width.0 > WIDEST {
+        if may_merge(row.kind, row.class.bytes()) && width.0 > WIDEST {
             return Ok(false);
         }
         self.keys.add(row)?;
@@ -75,7 +87,7 @@ impl<'a> Merging<'a> {
     }
 }
 
-/// The transistors, each group of alike ones as one; none where one is too wide. Linear.
+/// The devices, each group of alike ones as one; none where one is too wide. Linear.
 pub fn merge_devices(
     alloc: Global,
     devices: &[DeviceRow],

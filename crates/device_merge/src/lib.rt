@@ -13,4 +13,4 @@ mod parts;
 pub use fault::MergeFault;
 pub use groups::merge_devices;
 pub use merged::merge;
-pub use parts::{is_exchanged, merged_parts};
+pub use parts::merged_parts;

@@ -1,6 +1,6 @@
 //! Which transistors each merged one is made of.
 
-ghost use Rattle.std.specs.Prelude.{◌≡◌, ◌==◌, ◌∷◌, ◌++◌, List, [], IfOk, OnOk, map, not};
+ghost use Rattle.std.specs.Prelude.{◌≡◌, ◌∷◌, ◌++◌, List, [], IfOk, OnOk, map};
 ghost use Rattle.merge_laws.specs.Grouped.{Group, groups, with_device};
 ghost use Rattle.net_model.specs.Rows.{plain_device};
 ghost use Rattle.device_merge.specs.Merging.{placed};
@@ -84,11 +84,4 @@ pub fn merged_parts(alloc: Global, devices: &[DeviceRow]) -> Result<Vec<Vec<u32>
         rest = more;
     }
     Ok(parting.places)
-}
-
-/// Whether a transistor that is alike to another has source and drain exchanged against it.
-pub fn is_exchanged(first: &DeviceRow, other: &DeviceRow) -> bool
-    ensures { result ≡ not (other.now.source == first.now.source) }
-{
-    other.source != first.source
 }

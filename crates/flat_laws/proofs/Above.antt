@@ -3,14 +3,14 @@ use Rattle.std.proofs.Common.{◌≡◌, inl, inr, ℕ, List, [], ◌∷◌, Som
 use Rattle.flat_laws.specs.FlatGates.{FlatGatesLaw, IsVerdictAbove, ShowsGate, TakesNode}
 use Rattle.flat_laws.proofs.Count.{one_sizes}
 use Rattle.flat_laws.proofs.Cover.{reached_below}
-use Rattle.flat_laws.proofs.Formed.{good, pole_down, pole_up, read_layers}
+use Rattle.flat_laws.proofs.Formed.{good, terminal_down, terminal_up, read_layers}
 use Rattle.flat_laws.proofs.Judged.{along_path, not_both, one_cause}
 use Rattle.flat_laws.proofs.Kept.{gate_up}
 use Rattle.flat_laws.proofs.Once.{each_once, gate_between, gate_on, gate_self, settled_along, top_settled}
 use Rattle.flat_laws.proofs.Paths.{same_place}
 use Rattle.flat_laws.proofs.Rows.{one_least, square_apart}
 use Rattle.flat_laws.proofs.Zone.{leads_of}
-use Rattle.flat_layout.specs.Gates.{Ends, Geometry, Rule, geometry, InGate, IsBadGate, IsGoodGate, IsLeast, IsListedGate, IsSettled, IsSoundGeometry, IsTerminalNode, IsFound, moved_ends}
+use Rattle.flat_layout.specs.Gates.{Sides, Geometry, Rule, geometry, InGate, IsBadGate, IsGoodGate, IsLeast, IsListedGate, IsSettled, IsSoundGeometry, IsTerminalNode, IsFound, moved_sides}
 use Rattle.flat_layout.specs.GateTables.{AreGates, Bad, GateEntry, GateRow, Good, IsGateBefore, IsGateEntry, IsVerdict, Verdict}
 use Rattle.flat_layout.specs.Layers.{InFlat}
 use Rattle.flat_layout.specs.Layout.{Design, IsHeight, IsPlaced, IsReached, Leads, Place, Takes}
@@ -20,7 +20,7 @@ use Rattle.flat_layout.specs.Regions.{Wiring, Node, At, Ground, moved}
 use Rattle.geo_base.specs.Motions.{moved_square}
 use Rattle.geo_base.specs.declared.shapes.Square.{Square}
 use Rattle.plain_netlist.specs.Lists.{AreRising, IsListed}
-use Rattle.plain_netlist.specs.Netlist.{Pole}
+use Rattle.plain_netlist.specs.Devices.{Terminal}
 use Rattle.flat_layout.specs.declared.cause.GateCause.{GateCause}
 
 one_end : (d : Design) (path : List ℕ) (cell a b : ℕ) → Leads d cell path a → Leads d cell path b → a ≡ b
@@ -50,33 +50,33 @@ gate_along d g sound (k ∷ ks) cell end a b c reached (p, placed, r, takes, her
     (moved_square p.motion f.0, (p, placed, f.0, f.1, refl), subst (λ z. InGate d g cell z (moved_square p.motion f.0)) here (gate_up d g sound cell k p r reached placed still f.0 f.2))
 
 -- a good gate, seen from the start of a path
-record GoodAlong (d : Design) (w : Wiring) (u : Rule) (path : List ℕ) (cell end : ℕ) (s : Square) (ends : Ends) (m n : ℕ) (q : Square) : Type 0 where
-  far : Ends
+record GoodAlong (d : Design) (w : Wiring) (u : Rule) (path : List ℕ) (cell end : ℕ) (s : Square) (sides : Sides) (m n : ℕ) (q : Square) : Type 0 where
+  far : Sides
   is_good : IsGoodGate d w u cell q far m n
-  up : (pole : Pole) (x : Node) → IsTerminalNode d w u end s ends pole x → (y : Node) × TakesNode d cell path end x y × IsTerminalNode d w u cell q far pole y
-  down : (pole : Pole) (y : Node) → IsTerminalNode d w u cell q far pole y → (x : Node) × TakesNode d cell path end x y × IsTerminalNode d w u end s ends pole x
+  up : (terminal : Terminal) (x : Node) → IsTerminalNode d w u end s sides terminal x → (y : Node) × TakesNode d cell path end x y × IsTerminalNode d w u cell q far terminal y
+  down : (terminal : Terminal) (y : Node) → IsTerminalNode d w u cell q far terminal y → (x : Node) × TakesNode d cell path end x y × IsTerminalNode d w u end s sides terminal x
 
-good_along : (d : Design) (w : Wiring) (u : Rule) (path : List ℕ) (cell end : ℕ) (s : Square) (ends : Ends) (m n : ℕ) (q : Square) → IsReached d cell → Takes d cell path end s q → IsSettled d (geometry w u) end s → IsGoodGate d w u end s ends m n
-    → GoodAlong d w u path cell end s ends m n q
-good_along d w u [] cell end s ends m n q reached takes settled h =
-    let here : GoodAlong d w u [] end end s ends m n s = record { far = ends; is_good = h; up = λ pole x i. (x, takes_here d end x, i); down = λ pole y i. (y, takes_here d end y, i) } in
-    subst (λ c. GoodAlong d w u [] c end s ends m n q) (sym takes.0) (subst (λ z. GoodAlong d w u [] end end s ends m n z) takes.1 here)
-good_along d w u (k ∷ ks) cell end s ends m n q reached (p, placed, r, takes, here) settled h =
+good_along : (d : Design) (w : Wiring) (u : Rule) (path : List ℕ) (cell end : ℕ) (s : Square) (sides : Sides) (m n : ℕ) (q : Square) → IsReached d cell → Takes d cell path end s q → IsSettled d (geometry w u) end s → IsGoodGate d w u end s sides m n
+    → GoodAlong d w u path cell end s sides m n q
+good_along d w u [] cell end s sides m n q reached takes settled h =
+    let here : GoodAlong d w u [] end end s sides m n s = record { far = sides; is_good = h; up = λ terminal x i. (x, takes_here d end x, i); down = λ terminal y i. (y, takes_here d end y, i) } in
+    subst (λ c. GoodAlong d w u [] c end s sides m n q) (sym takes.0) (subst (λ z. GoodAlong d w u [] end end s sides m n z) takes.1 here)
+good_along d w u (k ∷ ks) cell end s sides m n q reached (p, placed, r, takes, here) settled h =
     let low = reached_below d cell k p reached placed in
-    let below = good_along d w u ks p.cell end s ends m n r low takes settled h in
+    let below = good_along d w u ks p.cell end s sides m n r low takes settled h in
     let still = settled_along d (geometry w u) (read_layers w u).gate ks p.cell end s r low takes settled in
-    let step : GoodAlong d w u (k ∷ ks) cell end s ends m n (moved_square p.motion r) = record {
-      far = moved_ends p.motion below.far;
+    let step : GoodAlong d w u (k ∷ ks) cell end s sides m n (moved_square p.motion r) = record {
+      far = moved_sides p.motion below.far;
       is_good = good d w u cell k p r reached placed still below.far m n below.is_good;
-      up = λ pole x i.
-          let y = below.up pole x i in
-          (moved p.motion y.0, takes_up d cell k p ks end x y.0 placed y.1, pole_up d w u cell k p r reached placed still below.far pole y.0 y.2);
-      down = λ pole y i.
-          let z = pole_down d w u cell k p r reached placed still below.far pole y i in
-          let x = below.down pole z.0 z.2 in
+      up = λ terminal x i.
+          let y = below.up terminal x i in
+          (moved p.motion y.0, takes_up d cell k p ks end x y.0 placed y.1, terminal_up d w u cell k p r reached placed still below.far terminal y.0 y.2);
+      down = λ terminal y i.
+          let z = terminal_down d w u cell k p r reached placed still below.far terminal y i in
+          let x = below.down terminal z.0 z.2 in
           (x.0, subst (λ v. TakesNode d cell (k ∷ ks) end x.0 v) z.1 (takes_up d cell k p ks end x.0 z.0 placed x.1), x.2);
     } in
-    subst (λ z. GoodAlong d w u (k ∷ ks) cell end s ends m n z) here step
+    subst (λ z. GoodAlong d w u (k ∷ ks) cell end s sides m n z) here step
 
 -- a rising list has one entry of a rule and square
 before_self : (a b : GateEntry) → IsGateBefore a.at b.at → a.at.rule ≡ b.at.rule → a.at.square ≡ b.at.square → ⊥
@@ -115,8 +115,8 @@ module _ (d : Design) (w : Wiring) (t : Tables) (rules : List Rule) (gates : ℕ
 
   verdict_above : (u : Rule) (path : List ℕ) (end : ℕ) (s : Square) (v : Verdict) (q : Square) → Takes d d.top path end s q → IsSettled d (geometry w u) end s → IsVerdict d w t u end s v → IsVerdictAbove d w t u path end s v q
   verdict_above u path end s (Good row) q takes settled h =
-      let a = good_along d w u path d.top end s h.ends row.twice_w row.twice_l q top takes settled h.good in
-      record { here = h; ends = a.far; good = a.is_good; up = a.up; down = a.down }
+      let a = good_along d w u path d.top end s h.sides row.twice_w row.twice_l q top takes settled h.good in
+      record { here = h; sides = a.far; good = a.is_good; up = a.up; down = a.down }
   verdict_above u path end s (Bad cause) q takes settled h = (h, along_path d w u path d.top end s q cause top takes settled h)
 
   each : (path : List ℕ) (end : ℕ) (x : GateEntry) (q : Square) → ShowsGate d gates path end x q → (u : Rule) × (slice_get rules x.at.rule ≡ Some u) × InFlat d d.top u.gate q × IsVerdictAbove d w t u path end x.at.square x.verdict q
@@ -166,18 +166,18 @@ module _ (d : Design) (w : Wiring) (t : Tables) (rules : List Rule) (gates : ℕ
         let same : k.0 ≡ u = (let a = k.1 in let b = is in cc) in
         subst (λ z. IsVerdictAbove d w t u path end x.at.square z q) e (subst (λ (r : Rule). IsVerdictAbove d w t r path end x.at.square x.verdict q) same k.3)
 
-    is_good : (ends : Ends) (m n : ℕ) → IsGoodGate d w u d.top q ends m n → (row : GateRow) × (x.verdict ≡ Good row) × (row.twice_w ≡ m) × (row.twice_l ≡ n)
-    is_good ends m n good = by x.verdict refl
+    is_good : (sides : Sides) (m n : ℕ) → IsGoodGate d w u d.top q sides m n → (row : GateRow) × (x.verdict ≡ Good row) × (row.twice_w ≡ m) × (row.twice_l ≡ n)
+    is_good sides m n good = by x.verdict refl
       where
         by : (v : Verdict) → x.verdict ≡ v → (row : GateRow) × (x.verdict ≡ Good row) × (row.twice_w ≡ m) × (row.twice_l ≡ n)
-        by (Good row) this = let a = above (Good row) this in let same = one_sizes d w u d.top q a.ends ends row.twice_w row.twice_l m n a.good good in (row, this, same.0, same.1)
-        by (Bad cause) this = absurd (not_both d w u d.top q ends m n cause good (above (Bad cause) this).1)
+        by (Good row) this = let a = above (Good row) this in let same = one_sizes d w u d.top q a.sides sides row.twice_w row.twice_l m n a.good good in (row, this, same.0, same.1)
+        by (Bad cause) this = absurd (not_both d w u d.top q sides m n cause good (above (Bad cause) this).1)
 
     is_bad : (c : GateCause) → IsBadGate d w u d.top q c → x.verdict ≡ Bad c
     is_bad c bad = by x.verdict refl
       where
         by : (v : Verdict) → x.verdict ≡ v → x.verdict ≡ Bad c
-        by (Good row) this = let a = above (Good row) this in absurd (not_both d w u d.top q a.ends row.twice_w row.twice_l c a.good bad)
+        by (Good row) this = let a = above (Good row) this in absurd (not_both d w u d.top q a.sides row.twice_w row.twice_l c a.good bad)
         by (Bad cause) this = this ∙ ap (λ (e : GateCause). Bad e) (one_cause d w u d.top q cause c (above (Bad cause) this).1 bad)
 
 pub flat_gates : FlatGatesLaw
@@ -185,6 +185,6 @@ flat_gates d w t rules gates height lower right = record {
   each = each d w t rules gates height lower right;
   found = found d w t rules gates height lower right;
   once = once d w t rules gates height lower right;
-  good = λ u path end x q ends m n h is good. is_good d w t rules gates height lower right u path end x q h is ends m n good;
+  good = λ u path end x q sides m n h is good. is_good d w t rules gates height lower right u path end x q h is sides m n good;
   bad = λ u path end x q c h is bad. is_bad d w t rules gates height lower right u path end x q h is c bad;
 }

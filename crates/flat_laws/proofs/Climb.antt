@@ -6,15 +6,17 @@ use Rattle.flat_laws.specs.Planned.{ArePlanned, IsJoiningCall}
 use Rattle.flat_layout.specs.Circuits.{IsCircuitCell}
 use Rattle.flat_layout.specs.Expanded.{CircuitTables, IsPartOfNet, ShowsNode}
 use Rattle.flat_layout.specs.Gates.{Rule}
-use Rattle.flat_layout.specs.GateTables.{terminal_net}
+use Rattle.flat_layout.specs.GateTables.{gate_nets}
 use Rattle.flat_layout.specs.Layout.{Place, Design, IsPlaced, IsReached}
 use Rattle.flat_layout.specs.Nets.{Item, Child, Tables, NetHolds, IsItemLink, AreTables}
 use Rattle.flat_layout.specs.Pins.{HasGate, IsNetOf, IsPinNet, IsUsed}
 use Rattle.flat_layout.specs.Regions.{Wiring, Node, InOneRegion, kept}
 use Rattle.plain_netlist.specs.Chains.{IsChain, Reaches}
+use Rattle.plain_netlist.specs.Lists.{IsListed}
 use Rattle.plain_netlist.specs.Netlist.{DeviceRow, CallRow, Circuit, Netlist, IsCircuit, IsCall, Slot, Joins, IsJoin, IsEitherJoin, InOneNet, HasDevice, IsTerminal}
 use Rattle.flat_laws.proofs.Paths.{same_place}
 use Rattle.flat_laws.proofs.Cover.{reached_below}
+use Rattle.flat_laws.proofs.Devices.{gate_net}
 use Rattle.flat_laws.proofs.Items.{items_sound}
 use Rattle.plain_netlist.proofs.Links.{stays, single, both, back, along}
 use Rattle.flat_laws.proofs.OneNet.{regions, numbered, in_below, below_item}
@@ -119,7 +121,7 @@ module _ (d : Design) (w : Wiring) (t : Tables) (height : ℕ → ℕ) (g : Circ
   Rises cell s a x = (o : ℕ) × (slice_get (g.parts cell).nets o ≡ Some x) × InOneNet nl s a (slot [] o)
 
   terminal_below : (s c : ℕ) (cs : List ℕ) (a : ℕ) → (h : IsTerminal nl s (slot (c ∷ cs) a)) → IsTerminal nl h.has.0.circuit (slot cs a)
-  terminal_below s c cs a h = record { device = h.device; row = h.row; pole = h.pole; has = h.has.2; on = h.on }
+  terminal_below s c cs a h = record { device = h.device; row = h.row; has = h.has.2; on = h.on }
 
   up_one : (cell s c k : ℕ) (p : Place) (cs : List ℕ) (a u x : ℕ) → IsReached d cell → IsCircuitCell g.cells s cell → slice_get (g.parts cell).calls c ≡ Some k → IsPlaced d cell k p → IsNetOf (t.nets cell) (Child k u) x
       → IsPinNet g.pins p.cell u → (h : IsTerminal nl s (slot (c ∷ cs) a)) → Rises p.cell h.has.0.circuit (slot cs a) u → Rises cell s (slot (c ∷ cs) a) x
@@ -157,9 +159,9 @@ module _ (d : Design) (w : Wiring) (t : Tables) (height : ℕ → ℕ) (g : Circ
   gate_here : (cell s a x : ℕ) → IsReached d cell → IsCircuitCell g.cells s cell → slice_get (g.parts cell).nets a ≡ Some x → IsTerminal nl s (slot [] a) → HasGate g.gates cell x
   gate_here cell s a x reached num net h =
       let r = (planned.circuits cell s h.has.0 reached num h.has.1).rows_each h.device h.row h.has.2 in
-      let there : slice_get (g.parts cell).nets a ≡ Some (terminal_net h.pole r.0.row) = subst (λ i. slice_get (g.parts cell).nets i ≡ Some (terminal_net h.pole r.0.row)) h.on (r.2.poles h.pole) in
-      let same : terminal_net h.pole r.0.row ≡ x = cc in
-      (h.device, r.0, r.1, h.pole, same)
+      let m = gate_net rules unit (g.parts cell).nets r.0 h.row r.2 a h.on in
+      let same : m.0 ≡ x = (let e = m.2 in cc) in
+      (h.device, r.0, r.1, subst (λ y. IsListed y (gate_nets r.0.row)) same m.1)
 
   meet : (cs es : List ℕ) (cell s a b x : ℕ) → IsReached d cell → IsCircuitCell g.cells s cell → IsPartOfNet d t g cell cs a x → IsPartOfNet d t g cell es b x
       → IsTerminal nl s (slot cs a) → IsTerminal nl s (slot es b) → InOneNet nl s (slot cs a) (slot es b)

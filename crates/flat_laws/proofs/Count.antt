@@ -1,7 +1,7 @@
 -- A count is one number.
 use Rattle.std.proofs.Common.{◌≡◌, ◌⊎◌, inl, inr, ℕ, suc, ◌+◌, ◌<◌, ◌≤◌, List, [], ◌∷◌, length, refl, sym, ◌∙◌, ap, subst, arith}
 use Rattle.flat_laws.specs.GateLaws.{GoodInLaw, OneCountLaw, OneSizesLaw}
-use Rattle.flat_layout.specs.Gates.{Counts, Ends, TwoGroups, Region, Form, Beside, Alone, Rule, form_of, geometry, sheets, InGate, IsBorder, IsWide, IsLong}
+use Rattle.flat_layout.specs.Gates.{Counts, Sides, TwoGroups, Region, Form, Beside, Alone, Rule, form_of, geometry, sheets, InGate, IsBorder, IsWide, IsLong}
 use Rattle.flat_layout.specs.Layers.{InFlat}
 use Rattle.flat_layout.specs.Layout.{Design}
 use Rattle.flat_layout.specs.Parts.{IsGoodForm}
@@ -41,7 +41,7 @@ counts d w u cell s m n = (
   count_one (IsBorder d w u cell s) m n,
 )
 
-form_sizes : (d : Design) (w : Wiring) (u : Rule) (cell : ℕ) (s : Square) (form : Form) (a b : Ends) (m n k l : ℕ) → IsGoodForm form (sheets d w u cell) (InGate d (geometry w u) cell s) a m n
+form_sizes : (d : Design) (w : Wiring) (u : Rule) (cell : ℕ) (s : Square) (form : Form) (a b : Sides) (m n k l : ℕ) → IsGoodForm form (sheets d w u cell) (InGate d (geometry w u) cell s) a m n
     → IsGoodForm form (sheets d w u cell) (InGate d (geometry w u) cell s) b k l → (m ≡ k) × (n ≡ l)
 form_sizes d w u cell s Beside (TwoGroups e f) (TwoGroups x y) m n k l h g = (count_one (IsWide d w u cell s) m k h.wide g.wide, count_one (IsLong d w u cell s) n l h.long g.long)
 form_sizes d w u cell s Beside (TwoGroups e f) Region m n k l h g = absurd g
@@ -63,11 +63,11 @@ some_counted {A = A} P n c lt = by c.all refl
     by [] e = let f : 0 ≡ n = ap (λ (l : List A). length l) e ∙ c.count in absurd (omega arith)
     by (x ∷ xs) e = (x, (c.each x).1 (subst (λ l. IsListed x l) e (inl refl)))
 
-form_in : (d : Design) (w : Wiring) (u : Rule) (cell : ℕ) (s : Square) (form : Form) (ends : Ends) (m n : ℕ) → IsGoodForm form (sheets d w u cell) (InGate d (geometry w u) cell s) ends m n → InFlat d cell u.gate s
+form_in : (d : Design) (w : Wiring) (u : Rule) (cell : ℕ) (s : Square) (form : Form) (sides : Sides) (m n : ℕ) → IsGoodForm form (sheets d w u cell) (InGate d (geometry w u) cell s) sides m n → InFlat d cell u.gate s
 form_in d w u cell s Beside (TwoGroups e f) m n h = (h.groups.each e (inl refl)).border.inside.from
 form_in d w u cell s Beside Region m n h = absurd h
 form_in d w u cell s Alone (TwoGroups e f) m n h = absurd h
 form_in d w u cell s Alone Region m n h = (some_counted (InGate d (geometry w u) cell s) m h.area h.some).1.from
 
 pub good_in : GoodInLaw
-good_in d w u cell s ends m n h = form_in d w u cell s (form_of u.kind) ends m n h
+good_in d w u cell s sides m n h = form_in d w u cell s (form_of u.kind) sides m n h

@@ -4,8 +4,8 @@ use Rattle.flat_laws.specs.NetlistLaws.{NetlistLaw}
 use Rattle.flat_laws.specs.Planned.{AreGateRows, ArePlanned}
 use Rattle.flat_layout.specs.Circuits.{IsCircuitCell}
 use Rattle.flat_layout.specs.Expanded.{AreDevices, AreTablesRight, CircuitTables, IsDeviceOf, IsGateOfDevice, ShowsNode}
-use Rattle.flat_layout.specs.Gates.{Rule, geometry, InGate, Ends, moved_ends, width_of, IsSettled, IsGateBelow, IsListedGate, IsGoodGate}
-use Rattle.flat_layout.specs.GateTables.{good_gates, terminal_net}
+use Rattle.flat_layout.specs.Gates.{Rule, geometry, InGate, Sides, moved_sides, IsSettled, IsGateBelow, IsListedGate, IsGoodGate}
+use Rattle.flat_layout.specs.GateTables.{good_gates}
 use Rattle.flat_layout.specs.Layout.{Place, Design, IsPlaced, Takes, IsReached}
 use Rattle.flat_layout.specs.Nets.{Tables, NetHolds}
 use Rattle.flat_layout.specs.Pins.{IsPinNet, IsMarked, IsUsedAbove}
@@ -18,7 +18,8 @@ use Rattle.flat_laws.proofs.Paths.{same_place}
 use Rattle.flat_laws.proofs.Cover.{reached_below}
 use Rattle.flat_laws.proofs.OneNet.{regions}
 use Rattle.flat_laws.proofs.Kept.{squares, gate_up, still}
-use Rattle.flat_laws.proofs.Formed.{good, good_back, onto_ends, pole_up, read_layers}
+use Rattle.flat_laws.proofs.Devices.{rule_device}
+use Rattle.flat_laws.proofs.Formed.{good, good_back, onto_sides, terminal_up, read_layers}
 use Rattle.flat_laws.proofs.Once.{gate_back, gate_on, gate_between, one_place, settled_along, each_once}
 use Rattle.flat_laws.proofs.Planned.{planned, lower}
 use Rattle.flat_laws.proofs.Rows.{rows}
@@ -53,22 +54,26 @@ module _ (d : Design) (w : Wiring) (t : Tables) (g : CircuitTables) (nl : Netlis
       let r = (plan.circuits cell n h.0 reached num h.1).rows_each i row h.2 in
       let o = (listed_rows cell reached).each i r.0 r.1 in
       let v = o.3 in
-      let same : r.2.rule ≡ o.0 = (let a = r.2.is in let b = o.1 in cc) in (
+      let own = rule_device rules unit (g.parts cell).nets r.0 row r.2 o.0 o.1 v.kind v.formed in (
         r.0.at.rule,
         o.0,
         r.0.at.square,
         o.1,
         (r.0, r.1, refl, refl),
         record {
-          ends = v.ends;
+          sides = v.sides;
           twice_w = r.0.row.twice_w;
           twice_l = r.0.row.twice_l;
           settled = o.2.settled;
           good = v.good;
-          class = r.2.class ∙ ap (λ (u : Rule). u.class) same;
-          width = r.2.width ∙ ap (λ (u : Rule). width_of u unit r.0.row.twice_w) same;
-          length = r.2.length;
-          nodes = λ pole. let p = v.nets pole in (p.0, p.1, (terminal_net pole r.0.row, r.2.poles pole, p.2));
+          kind = own.kind;
+          class = own.class;
+          sizes = own.sizes;
+          formed = own.formed;
+          nodes = λ terminal a at.
+              let m = own.back terminal a at in
+              let p = v.nets terminal m.0 m.1 in
+              (p.0, p.1, (m.0, m.2, p.2));
         },
       )
   each (c ∷ cs) cell n i row reached num h =
@@ -84,17 +89,18 @@ module _ (d : Design) (w : Wiring) (t : Tables) (g : CircuitTables) (nl : Netlis
         f.3,
         (k.0, p, k.2, k.3, s, f.4, refl),
         record {
-          ends = moved_ends p.motion v.ends;
+          sides = moved_sides p.motion v.sides;
           twice_w = v.twice_w;
           twice_l = v.twice_l;
           settled = still d (geometry w u) (read_layers w u).gate cell k.0 p s reached k.3 v.settled;
-          good = good d w u cell k.0 p s reached k.3 v.settled v.ends v.twice_w v.twice_l v.good;
+          good = good d w u cell k.0 p s reached k.3 v.settled v.sides v.twice_w v.twice_l v.good;
+          kind = v.kind;
           class = v.class;
-          width = v.width;
-          length = v.length;
-          nodes = λ pole.
-              let q = v.nodes pole in
-              (moved p.motion q.0, pole_up d w u cell k.0 p s reached k.3 v.settled v.ends pole q.0 q.1, (k.0, p, k.2, k.3, q.0, q.2, refl));
+          sizes = v.sizes;
+          formed = v.formed;
+          nodes = λ terminal a at.
+              let q = v.nodes terminal a at in
+              (moved p.motion q.0, terminal_up d w u cell k.0 p s reached k.3 v.settled v.sides terminal q.0 q.1, (k.0, p, k.2, k.3, q.0, q.2, refl));
         },
       )
 
@@ -148,9 +154,9 @@ module _ (d : Design) (w : Wiring) (t : Tables) (g : CircuitTables) (nl : Netlis
       let lists : cs ≡ es = rest.0 in
       (cc, rest.1)
 
-  raised_here : (cell : ℕ) (r : ℕ) (u : Rule) (q : Square) (ends : Ends) (m l : ℕ) → IsReached d cell → IsListedGate d (geometry w u) cell q → slice_get rules r ≡ Some u → IsGoodGate d w u cell q ends m l → Raised d w g nl cell r u q
-  raised_here cell r u q ends m l reached here rule h =
-      let o = (listed_rows cell reached).found r u q ends m l rule here h in
+  raised_here : (cell : ℕ) (r : ℕ) (u : Rule) (q : Square) (sides : Sides) (m l : ℕ) → IsReached d cell → IsListedGate d (geometry w u) cell q → slice_get rules r ≡ Some u → IsGoodGate d w u cell q sides m l → Raised d w g nl cell r u q
+  raised_here cell r u q sides m l reached here rule h =
+      let o = (listed_rows cell reached).found r u q sides m l rule here h in
       let n = plan.gates cell o.0 o.1 reached o.2 in
       let c = plan.found cell n.0 reached n.1 in
       let row = (plan.circuits cell n.0 c.0 reached n.1 c.1).rows_found o.0 o.1 o.2 in
@@ -177,31 +183,31 @@ module _ (d : Design) (w : Wiring) (t : Tables) (g : CircuitTables) (nl : Netlis
         in_gate = subst (λ z. InGate d (geometry w u) cell z (moved_square p.motion below.square)) here (gate_up d (geometry w u) (read_layers w u).gate cell k p y reached placed settled below.square below.in_gate);
       }
 
-  form_below : (cell k : ℕ) (p : Place) (u : Rule) (y q : Square) (ends : Ends) (m l : ℕ) → IsReached d cell → IsPlaced d cell k p → IsSettled d (geometry w u) p.cell y → moved_square p.motion y ≡ q → IsGoodGate d w u cell q ends m l
-      → (i : Ends) × IsGoodGate d w u p.cell y i m l
-  form_below cell k p u y q ends m l reached placed settled here h =
-      let i = onto_ends d w u cell k p y reached placed settled ends in
-      let at : IsGoodGate d w u cell (moved_square p.motion y) ends m l = subst (λ z. IsGoodGate d w u cell z ends m l) (sym here) h in
-      let moved_form : IsGoodGate d w u cell (moved_square p.motion y) (moved_ends p.motion i.0) m l = subst (λ z. IsGoodGate d w u cell (moved_square p.motion y) z m l) (sym i.1) at in
+  form_below : (cell k : ℕ) (p : Place) (u : Rule) (y q : Square) (sides : Sides) (m l : ℕ) → IsReached d cell → IsPlaced d cell k p → IsSettled d (geometry w u) p.cell y → moved_square p.motion y ≡ q → IsGoodGate d w u cell q sides m l
+      → (i : Sides) × IsGoodGate d w u p.cell y i m l
+  form_below cell k p u y q sides m l reached placed settled here h =
+      let i = onto_sides d w u cell k p y reached placed settled sides in
+      let at : IsGoodGate d w u cell (moved_square p.motion y) sides m l = subst (λ z. IsGoodGate d w u cell z sides m l) (sym here) h in
+      let moved_form : IsGoodGate d w u cell (moved_square p.motion y) (moved_sides p.motion i.0) m l = subst (λ z. IsGoodGate d w u cell (moved_square p.motion y) z m l) (sym i.1) at in
       (i.0, good_back d w u cell k p y reached placed settled i.0 m l moved_form)
 
-  raised : (path : List ℕ) (cell end : ℕ) (r : ℕ) (u : Rule) (s q : Square) (ends : Ends) (m l : ℕ) → IsReached d cell → Takes d cell path end s q → IsListedGate d (geometry w u) end s → slice_get rules r ≡ Some u
-      → IsGoodGate d w u cell q ends m l → Raised d w g nl cell r u q
-  raised [] cell end r u s q ends m l reached takes gate rule h =
-      raised_here cell r u q ends m l reached (subst (λ c. IsListedGate d (geometry w u) c q) (sym takes.0) (subst (λ y. IsListedGate d (geometry w u) end y) takes.1 gate)) rule h
-  raised (k ∷ ks) cell end r u s q ends m l reached (p, placed, y, takes, here) gate rule h =
+  raised : (path : List ℕ) (cell end : ℕ) (r : ℕ) (u : Rule) (s q : Square) (sides : Sides) (m l : ℕ) → IsReached d cell → Takes d cell path end s q → IsListedGate d (geometry w u) end s → slice_get rules r ≡ Some u
+      → IsGoodGate d w u cell q sides m l → Raised d w g nl cell r u q
+  raised [] cell end r u s q sides m l reached takes gate rule h =
+      raised_here cell r u q sides m l reached (subst (λ c. IsListedGate d (geometry w u) c q) (sym takes.0) (subst (λ y. IsListedGate d (geometry w u) end y) takes.1 gate)) rule h
+  raised (k ∷ ks) cell end r u s q sides m l reached (p, placed, y, takes, here) gate rule h =
       let down = reached_below d cell k p reached placed in
       let settled = settled_along d (geometry w u) (read_layers w u).gate ks p.cell end s y down takes gate.settled in
-      let b = form_below cell k p u y q ends m l reached placed settled here h in
+      let b = form_below cell k p u y q sides m l reached placed settled here h in
       raise_one cell k p r u y q reached placed settled here (raised ks p.cell end r u s y b.0 m l down takes gate rule b.1)
 
   devices : (cell n : ℕ) → IsReached d cell → IsCircuitCell g.cells n cell → AreDevices d w t g nl rules unit cell n
   devices cell n reached num = record {
     each = λ path i row h. each path cell n i row reached num h;
-    found = λ r u s ends v l rule settled h.
+    found = λ r u s sides v l rule settled h.
         let one = each_once d (geometry w u) height (read_layers w u).gate x.tables.lower (λ c q up. (x.gates c up).parted r u q rule) cell s reached settled in
         let at = one.0 in
-        let way = raised at.path cell at.end r u at.square at.place ends v l reached at.takes at.gate rule (good_same d w u cell s at.place at.image ends v l h) in
+        let way = raised at.path cell at.end r u at.square at.place sides v l reached at.takes at.gate rule (good_same d w u cell s at.place at.image sides v l h) in
         let same : way.number ≡ n = plan.one way.number n cell way.is num in
         (way.path, way.device, way.row, way.square, subst (λ z. HasDevice nl z way.path way.device way.row) same way.has, way.carries, gate_on d (geometry w u) cell s at.place way.square at.image way.in_gate);
     once = λ a b i j v z r u s q h k rule c c' way. once a b cell n i j v z r u s q reached num h k rule c c' way;

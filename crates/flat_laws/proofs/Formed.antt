@@ -1,9 +1,9 @@
 -- The image of a settled gate is good with the same sizes, or bad for the same cause.
-use Rattle.std.proofs.Common.{◌≡◌, ◌↔◌, inl, inr, ℕ, max, ◌≤◌, List, [], ◌∷◌, ◌++◌, refl, sym, ◌∙◌, ap, subst, map, arith}
+use Rattle.std.proofs.Common.{◌≡◌, ◌↔◌, inl, inr, ℕ, zero, suc, max, ◌≤◌, List, [], ◌∷◌, ◌++◌, refl, sym, ◌∙◌, ap, subst, map, arith}
 use Rattle.std.proofs.Math.Nat.{le-max_left, le-max_right}
 use Rattle.std.proofs.lemmas.List.{length-map}
 use Rattle.flat_laws.specs.GateLaws.{IsReadWhole, KeptFormLaw, ReadLayersLaw}
-use Rattle.flat_layout.specs.Gates.{Rule, Geometry, geometry, gate_inputs, IsReadBy, IsStep, InGate, IsGateOrRing, InRing, IsSettled, InSide, InOneGroup, Edge, IsBorder, IsWide, IsLong, AreGroups, IsGoodGate, IsTerminalNode, IsBadGate, Ends, TwoGroups, Region, Form, Beside, Alone, Kind, Mos, Resistor, Diode, form_of, gate_sheet, sheets, IsRegionNode, IsGroupNode, IsGateNode, moved_edge, moved_ends}
+use Rattle.flat_layout.specs.Gates.{Rule, Geometry, geometry, gate_inputs, IsReadBy, IsStep, InGate, IsGateOrRing, InRing, IsSettled, InSide, InOneGroup, Edge, IsBorder, IsWide, IsLong, AreGroups, IsGoodGate, IsTerminalNode, IsBadGate, Sides, TwoGroups, Region, Form, Beside, Alone, form_of, gate_sheet, sheets, IsRegionNode, IsGroupNode, IsOtherNode, moved_edge, moved_sides}
 use Rattle.flat_layout.specs.Layers.{Formula, inputs, reach, InFlat}
 use Rattle.flat_layout.specs.Layout.{Place, Design, Some_of, IsPlaced, IsReached}
 use Rattle.flat_layout.specs.Parts.{AllOn, SomeOff, InEnds, IsGoodPart, IsBadPart, IsGoodArea, IsBadArea, IsGoodForm, IsBadForm}
@@ -12,7 +12,9 @@ use Rattle.geo_base.specs.declared.layer.LayerKey.{LayerKey}
 use Rattle.geo_base.specs.Motions.{moved_square}
 use Rattle.geo_base.specs.declared.shapes.Square.{Square}
 use Rattle.plain_netlist.specs.Chains.{IsChain, Reaches}
-use Rattle.plain_netlist.specs.Netlist.{Pole, Source, Gate, Drain, Bulk}
+use Rattle.plain_netlist.specs.declared.kinds.DeviceKind.{DeviceKind}
+use Rattle.plain_netlist.specs.declared.kinds.DeviceKind.TheVariants.{Mos4, ResistorWithBulk, Diode}
+use Rattle.plain_netlist.specs.Devices.{Terminal, First, Second, Other}
 use Rattle.flat_laws.proofs.Paths.{moved_square-injective}
 use Rattle.flat_laws.proofs.Names.{more_left, more_right}
 use Rattle.plain_netlist.proofs.Links.{single, along}
@@ -223,14 +225,14 @@ module _ (d : Design) (w : Wiring) (u : Rule) (cell k : ℕ) (p : Place) (s : Sq
       (same name inside q side.ring.close).0 (h (f q) ((groups e.outer q).1 g))
 
   -- the squares of the gate on the sheet of the rule's kind
-  sheet_on : (k : Kind) → AllOn (InGate d geo p.cell s) (gate_sheet k (InFlat d p.cell (formula w u.tg))) → AllOn (InGate d geo cell (f s)) (gate_sheet k (InFlat d cell (formula w u.tg)))
-  sheet_on Mos h = all_on (formula w u.tg) whole.tg h
-  sheet_on Resistor h = λ q i. tt
+  sheet_on : (k : DeviceKind) → AllOn (InGate d geo p.cell s) (gate_sheet k (InFlat d p.cell (formula w u.tg))) → AllOn (InGate d geo cell (f s)) (gate_sheet k (InFlat d cell (formula w u.tg)))
+  sheet_on Mos4 h = all_on (formula w u.tg) whole.tg h
+  sheet_on ResistorWithBulk h = λ q i. tt
   sheet_on Diode h = λ q i. tt
 
-  sheet_back : (k : Kind) → AllOn (InGate d geo cell (f s)) (gate_sheet k (InFlat d cell (formula w u.tg))) → AllOn (InGate d geo p.cell s) (gate_sheet k (InFlat d p.cell (formula w u.tg)))
-  sheet_back Mos h = all_back (formula w u.tg) whole.tg h
-  sheet_back Resistor h = λ q i. tt
+  sheet_back : (k : DeviceKind) → AllOn (InGate d geo cell (f s)) (gate_sheet k (InFlat d cell (formula w u.tg))) → AllOn (InGate d geo p.cell s) (gate_sheet k (InFlat d p.cell (formula w u.tg)))
+  sheet_back Mos4 h = all_back (formula w u.tg) whole.tg h
+  sheet_back ResistorWithBulk h = λ q i. tt
   sheet_back Diode h = λ q i. tt
 
   good_part : (e g : Edge) (m n : ℕ) → IsGoodPart (sheets d w u p.cell) (InGate d geo p.cell s) e g m n → IsGoodPart (sheets d w u cell) (InGate d geo cell (f s)) (both_ends e) (both_ends g) m n
@@ -261,14 +263,14 @@ module _ (d : Design) (w : Wiring) (u : Rule) (cell k : ℕ) (p : Place) (s : Sq
     bulk_on = λ none. all_on (formula w u.tb) whole.tb (h.bulk_on none);
   }
 
-  good_form : (form : Form) (ends : Ends) (m n : ℕ) → IsGoodForm form (sheets d w u p.cell) (InGate d geo p.cell s) ends m n → IsGoodForm form (sheets d w u cell) (InGate d geo cell (f s)) (moved_ends p.motion ends) m n
+  good_form : (form : Form) (sides : Sides) (m n : ℕ) → IsGoodForm form (sheets d w u p.cell) (InGate d geo p.cell s) sides m n → IsGoodForm form (sheets d w u cell) (InGate d geo cell (f s)) (moved_sides p.motion sides) m n
   good_form Beside (TwoGroups e g) m n h = good_part e g m n h
   good_form Beside Region m n h = absurd h
   good_form Alone (TwoGroups e g) m n h = absurd h
   good_form Alone Region m n h = good_area m n h
 
-  pub good : (ends : Ends) (m n : ℕ) → IsGoodGate d w u p.cell s ends m n → IsGoodGate d w u cell (f s) (moved_ends p.motion ends) m n
-  good ends m n h = good_form (form_of u.kind) ends m n h
+  pub good : (sides : Sides) (m n : ℕ) → IsGoodGate d w u p.cell s sides m n → IsGoodGate d w u cell (f s) (moved_sides p.motion sides) m n
+  good sides m n h = good_form (form_of u.kind) sides m n h
 
   -- the edge that an edge is the image of
   abbrev pulled : Edge → Edge
@@ -355,22 +357,22 @@ module _ (d : Design) (w : Wiring) (u : Rule) (cell k : ℕ) (p : Place) (s : Sq
     bulk_on = λ none. all_back (formula w u.tb) whole.tb (h.bulk_on none);
   }
 
-  form_back : (form : Form) (ends : Ends) (m n : ℕ) → IsGoodForm form (sheets d w u cell) (InGate d geo cell (f s)) (moved_ends p.motion ends) m n → IsGoodForm form (sheets d w u p.cell) (InGate d geo p.cell s) ends m n
+  form_back : (form : Form) (sides : Sides) (m n : ℕ) → IsGoodForm form (sheets d w u cell) (InGate d geo cell (f s)) (moved_sides p.motion sides) m n → IsGoodForm form (sheets d w u p.cell) (InGate d geo p.cell s) sides m n
   form_back Beside (TwoGroups e g) m n h = part_back e g m n h
   form_back Beside Region m n h = absurd h
   form_back Alone (TwoGroups e g) m n h = absurd h
   form_back Alone Region m n h = area_back m n h
 
-  pub good_back : (ends : Ends) (m n : ℕ) → IsGoodGate d w u cell (f s) (moved_ends p.motion ends) m n → IsGoodGate d w u p.cell s ends m n
-  good_back ends m n h = form_back (form_of u.kind) ends m n h
+  pub good_back : (sides : Sides) (m n : ℕ) → IsGoodGate d w u cell (f s) (moved_sides p.motion sides) m n → IsGoodGate d w u p.cell s sides m n
+  good_back sides m n h = form_back (form_of u.kind) sides m n h
 
-  -- the ends that ends are the image of
-  pub onto_ends : (b : Ends) → (a : Ends) × (moved_ends p.motion a ≡ b)
-  onto_ends (TwoGroups e g) =
+  -- the sides that sides are the image of
+  pub onto_sides : (b : Sides) → (a : Sides) × (moved_sides p.motion a ≡ b)
+  onto_sides (TwoGroups e g) =
       let i = onto_edge e in
       let j = onto_edge g in
       (TwoGroups i.0 j.0, ap (λ (x : Edge). TwoGroups x (both_ends j.0)) i.1 ∙ ap (λ (x : Edge). TwoGroups e x) j.1)
-  onto_ends Region = (Region, refl)
+  onto_sides Region = (Region, refl)
 
   same_groups : (list : List Edge) → AreGroups d w u p.cell s list → AreGroups d w u cell (f s) (map both_ends list)
   same_groups list h = classes_map both_ends one_edge (IsWide d w u p.cell s) (IsWide d w u cell (f s)) (λ a b. InOneGroup d w u p.cell s a.outer b.outer) (λ a b. InOneGroup d w u cell (f s) a.outer b.outer) wide (λ a b. groups a.outer b.outer) onto_edge list h
@@ -393,9 +395,9 @@ module _ (d : Design) (w : Wiring) (u : Rule) (cell k : ℕ) (p : Place) (s : Sq
   ends_off e g two (q, inl i, not) = (f q, inl ((groups e.outer q).1 i), off_end e q (two.each e (inl refl)) i not)
   ends_off e g two (q, inr i, not) = (f q, inr ((groups g.outer q).1 i), off_end g q (two.each g (inr (inl refl))) i not)
 
-  sheet_off : (k : Kind) → SomeOff (InGate d geo p.cell s) (gate_sheet k (InFlat d p.cell (formula w u.tg))) → SomeOff (InGate d geo cell (f s)) (gate_sheet k (InFlat d cell (formula w u.tg)))
-  sheet_off Mos h = gate_off u.tg whole.tg h
-  sheet_off Resistor (q, i, not) = absurd (not tt)
+  sheet_off : (k : DeviceKind) → SomeOff (InGate d geo p.cell s) (gate_sheet k (InFlat d p.cell (formula w u.tg))) → SomeOff (InGate d geo cell (f s)) (gate_sheet k (InFlat d cell (formula w u.tg)))
+  sheet_off Mos4 h = gate_off u.tg whole.tg h
+  sheet_off ResistorWithBulk (q, i, not) = absurd (not tt)
   sheet_off Diode (q, i, not) = absurd (not tt)
 
   bad_part : (c : GateCause) → IsBadPart (sheets d w u p.cell) (InGate d geo p.cell s) c → IsBadPart (sheets d w u cell) (InGate d geo cell (f s)) c
@@ -436,20 +438,22 @@ module _ (d : Design) (w : Wiring) (u : Rule) (cell k : ℕ) (p : Place) (s : Sq
   region_up c n (inl h) = inl (h.0, h.1, ap (moved p.motion) h.2)
   region_up c n (inr h) = inr (h.0, (f h.1.0, gates_up h.1.0 h.1.1, ap (moved p.motion) h.1.2))
 
-  gate_node_up : (k : Kind) (n : Node) → IsGateNode k d w u p.cell s n → IsGateNode k d w u cell (f s) (moved p.motion n)
-  gate_node_up Mos n h = (f h.0, gates_up h.0 h.1, ap (moved p.motion) h.2)
-  gate_node_up Resistor n h = region_up u.tb n h
-  gate_node_up Diode n h = region_up u.tb n h
+  other_up : (k : DeviceKind) (place : ℕ) (n : Node) → IsOtherNode k d w u p.cell s place n → IsOtherNode k d w u cell (f s) place (moved p.motion n)
+  other_up Mos4 zero n h = (f h.0, gates_up h.0 h.1, ap (moved p.motion) h.2)
+  other_up Mos4 (suc zero) n h = region_up u.tb n h
+  other_up Mos4 (suc (suc j)) n h = h
+  other_up ResistorWithBulk zero n h = region_up u.tb n h
+  other_up ResistorWithBulk (suc j) n h = h
+  other_up Diode zero n h = region_up u.ts n h
+  other_up Diode (suc zero) n h = region_up u.tb n h
+  other_up Diode (suc (suc j)) n h = h
 
-  pub pole_up : (ends : Ends) (pole : Pole) (n : Node) → IsTerminalNode d w u p.cell s ends pole n → IsTerminalNode d w u cell (f s) (moved_ends p.motion ends) pole (moved p.motion n)
-  pole_up (TwoGroups e g) Source n h = group_up e n h
-  pole_up (TwoGroups e g) Drain n h = group_up g n h
-  pole_up (TwoGroups e g) Gate n h = gate_node_up u.kind n h
-  pole_up (TwoGroups e g) Bulk n h = region_up u.tb n h
-  pole_up Region Source n h = region_up u.ts n h
-  pole_up Region Drain n h = region_up u.ts n h
-  pole_up Region Gate n h = gate_node_up u.kind n h
-  pole_up Region Bulk n h = region_up u.tb n h
+  pub terminal_up : (sides : Sides) (terminal : Terminal) (n : Node) → IsTerminalNode d w u p.cell s sides terminal n → IsTerminalNode d w u cell (f s) (moved_sides p.motion sides) terminal (moved p.motion n)
+  terminal_up (TwoGroups e g) First n h = group_up e n h
+  terminal_up (TwoGroups e g) Second n h = group_up g n h
+  terminal_up Region First n h = h
+  terminal_up Region Second n h = h
+  terminal_up sides (Other place) n h = other_up u.kind place n h
 
   group_down : (e : Edge) (n : Node) → IsGroupNode d w u cell (f s) (both_ends e) n → (m : Node) × (moved p.motion m ≡ n) × IsGroupNode d w u p.cell s e m
   group_down e n h = let r = onto p.motion h.0 in (At u.ts r.0, ap (At u.ts) r.1 ∙ h.2, (r.0, (groups e.outer r.0).0 (subst (λ y. InOneGroup d w u cell (f s) (f e.outer) y) (sym r.1) h.1), refl))
@@ -458,20 +462,22 @@ module _ (d : Design) (w : Wiring) (u : Rule) (cell k : ℕ) (p : Place) (s : Sq
   region_down c n (inl h) = (Ground h.0, h.2, inl (h.0, h.1, refl))
   region_down c n (inr h) = let r = gates_down h.1.0 h.1.1 in (At c r.0, ap (At c) r.1 ∙ h.1.2, inr (h.0, (r.0, r.2, refl)))
 
-  gate_node_down : (k : Kind) (n : Node) → IsGateNode k d w u cell (f s) n → (m : Node) × (moved p.motion m ≡ n) × IsGateNode k d w u p.cell s m
-  gate_node_down Mos n h = let r = gates_down h.0 h.1 in (At u.tg r.0, ap (At u.tg) r.1 ∙ h.2, (r.0, r.2, refl))
-  gate_node_down Resistor n h = region_down u.tb n h
-  gate_node_down Diode n h = region_down u.tb n h
+  other_down : (k : DeviceKind) (place : ℕ) (n : Node) → IsOtherNode k d w u cell (f s) place n → (m : Node) × (moved p.motion m ≡ n) × IsOtherNode k d w u p.cell s place m
+  other_down Mos4 zero n h = let r = gates_down h.0 h.1 in (At u.tg r.0, ap (At u.tg) r.1 ∙ h.2, (r.0, r.2, refl))
+  other_down Mos4 (suc zero) n h = region_down u.tb n h
+  other_down Mos4 (suc (suc j)) n h = absurd h
+  other_down ResistorWithBulk zero n h = region_down u.tb n h
+  other_down ResistorWithBulk (suc j) n h = absurd h
+  other_down Diode zero n h = region_down u.ts n h
+  other_down Diode (suc zero) n h = region_down u.tb n h
+  other_down Diode (suc (suc j)) n h = absurd h
 
-  pub pole_down : (ends : Ends) (pole : Pole) (n : Node) → IsTerminalNode d w u cell (f s) (moved_ends p.motion ends) pole n → (m : Node) × (moved p.motion m ≡ n) × IsTerminalNode d w u p.cell s ends pole m
-  pole_down (TwoGroups e g) Source n h = group_down e n h
-  pole_down (TwoGroups e g) Drain n h = group_down g n h
-  pole_down (TwoGroups e g) Gate n h = gate_node_down u.kind n h
-  pole_down (TwoGroups e g) Bulk n h = region_down u.tb n h
-  pole_down Region Source n h = region_down u.ts n h
-  pole_down Region Drain n h = region_down u.ts n h
-  pole_down Region Gate n h = gate_node_down u.kind n h
-  pole_down Region Bulk n h = region_down u.tb n h
+  pub terminal_down : (sides : Sides) (terminal : Terminal) (n : Node) → IsTerminalNode d w u cell (f s) (moved_sides p.motion sides) terminal n → (m : Node) × (moved p.motion m ≡ n) × IsTerminalNode d w u p.cell s sides terminal m
+  terminal_down (TwoGroups e g) First n h = group_down e n h
+  terminal_down (TwoGroups e g) Second n h = group_down g n h
+  terminal_down Region First n h = absurd h
+  terminal_down Region Second n h = absurd h
+  terminal_down sides (Other place) n h = other_down u.kind place n h
 
 pub kept_form : KeptFormLaw
 kept_form d w u cell k p s reached placed settled = record {

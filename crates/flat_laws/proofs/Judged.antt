@@ -2,7 +2,7 @@
 use Rattle.std.proofs.Common.{◌≡◌, ◌⊎◌, inl, inr, ℕ, suc, ◌≤◌, List, [], ◌∷◌, length, refl, sym, ◌∙◌, ap, subst, arith}
 use Rattle.geo_base.specs.declared.shapes.Square.{Square}
 use Rattle.flat_laws.specs.GateLaws.{CauseAlongLaw, NotBothLaw, OneCauseLaw}
-use Rattle.flat_layout.specs.Gates.{Rule, geometry, Edge, Ends, TwoGroups, Region, Form, Beside, Alone, form_of, gate_sheet, sheets, AreClasses, AreGroups, IsStep, InSide, InOneGroup, IsWide, IsBadGate, InGate}
+use Rattle.flat_layout.specs.Gates.{Rule, geometry, Edge, Sides, TwoGroups, Region, Form, Beside, Alone, form_of, gate_sheet, sheets, AreClasses, AreGroups, IsStep, InSide, InOneGroup, IsWide, IsBadGate, InGate}
 use Rattle.flat_layout.specs.Parts.{AllOn, SomeOff, InEnds, IsGoodPart, IsBadPart, IsGoodArea, IsBadArea, IsGoodForm, IsBadForm}
 use Rattle.flat_layout.specs.Layout.{Design}
 use Rattle.flat_layout.specs.Layers.{InFlat}
@@ -166,7 +166,7 @@ module _ (d : Design) (w : Wiring) (u : Rule) (cell : ℕ) (s : Square) where
   one_area NoBulk OffSd h k = absurd (on_off on_ts (h.0 k.0) k.1)
   one_area NoBulk NoBulk h k = refl
 
-  not_both_form : (form : Form) (ends : Ends) (m n : ℕ) (c : GateCause) → IsGoodForm form (sheets d w u cell) (InGate d (geometry w u) cell s) ends m n → IsBadForm form (sheets d w u cell) (InGate d (geometry w u) cell s) c → ⊥
+  not_both_form : (form : Form) (sides : Sides) (m n : ℕ) (c : GateCause) → IsGoodForm form (sheets d w u cell) (InGate d (geometry w u) cell s) sides m n → IsBadForm form (sheets d w u cell) (InGate d (geometry w u) cell s) c → ⊥
   not_both_form Beside (TwoGroups e f) m n c h k = not_both_part e f m n c h k
   not_both_form Beside Region m n c h k = h
   not_both_form Alone (TwoGroups e f) m n c h k = h
@@ -177,7 +177,7 @@ module _ (d : Design) (w : Wiring) (u : Rule) (cell : ℕ) (s : Square) where
   one_form Alone a b h k = one_area a b h k
 
 pub not_both : NotBothLaw
-not_both d w u cell s ends m n c h k = not_both_form d w u cell s (form_of u.kind) ends m n c h k
+not_both d w u cell s sides m n c h k = not_both_form d w u cell s (form_of u.kind) sides m n c h k
 
 pub one_cause : OneCauseLaw
 one_cause d w u cell s a b h k = one_form d w u cell s (form_of u.kind) a b h k

@@ -16,8 +16,8 @@ pub mod Same
 pub mod Judged
 pub mod Rows
 pub mod Planned
-pub mod Poles
 pub mod Climb
+pub mod Devices
 pub mod Expand
 pub mod Zone
 pub mod Flat

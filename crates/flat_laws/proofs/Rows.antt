@@ -3,7 +3,7 @@ use Rattle.std.proofs.Common.{◌≡◌, ◌⊎◌, inl, inr, ℕ, List, [], ◌
 use Rattle.std.proofs.lemmas.Int.{ints}
 use Rattle.std.proofs.Math.Decide.{dec_lt}
 use Rattle.flat_laws.specs.NetlistLaws.{RowsLaw}
-use Rattle.flat_layout.specs.Gates.{Ends, Geometry, Rule, geometry, InGate, IsBadGate, IsGoodGate, IsLeast, IsListedGate}
+use Rattle.flat_layout.specs.Gates.{Sides, Geometry, Rule, geometry, InGate, IsBadGate, IsGoodGate, IsLeast, IsListedGate}
 use Rattle.flat_layout.specs.GateTables.{AreGates, Bad, GateEntry, GateRow, GateSquare, Good, GoodGate, IsGateBefore, IsGateRow, IsVerdict, Verdict, good_gates, with_good}
 use Rattle.flat_layout.specs.Layout.{Design}
 use Rattle.flat_layout.specs.Nets.{Tables}
@@ -94,9 +94,9 @@ module _ (d : Design) (w : Wiring) (t : Tables) (rules : List Rule) (cell : ℕ)
   each : (i : ℕ) (x : GoodGate) → slice_get (good_gates v) i ≡ Some x → (u : Rule) × (slice_get rules x.at.rule ≡ Some u) × IsListedGate d (geometry w u) cell x.at.square × IsGateRow d w t u cell x.at.square x.row
   each i x at = let k = known x (listed (good_gates v) i x at) in (k.rule, k.is, k.gate, k.row)
 
-  found : (r : ℕ) (u : Rule) (s : Square) (ends : Ends) (m n : ℕ) → slice_get rules r ≡ Some u → IsListedGate d (geometry w u) cell s → IsGoodGate d w u cell s ends m n
+  found : (r : ℕ) (u : Rule) (s : Square) (sides : Sides) (m n : ℕ) → slice_get rules r ≡ Some u → IsListedGate d (geometry w u) cell s → IsGoodGate d w u cell s sides m n
       → (i : ℕ) × (x : GoodGate) × (slice_get (good_gates v) i ≡ Some x) × (x.at.rule ≡ r) × InGate d (geometry w u) cell s x.at.square
-  found r u s ends m n rule gate good = by x.0.verdict refl
+  found r u s sides m n rule gate good = by x.0.verdict refl
     where
       x : (y : GateEntry) × IsListed y v × (y.at.rule ≡ r) × InGate d (geometry w u) cell s y.at.square
       x = h.found r u s rule gate
@@ -108,7 +108,7 @@ module _ (d : Design) (w : Wiring) (t : Tables) (rules : List Rule) (cell : ℕ)
           let there : slice_get rules r ≡ Some k.rule = subst (λ j. slice_get rules j ≡ Some k.rule) x.2 k.is in
           let same : k.rule ≡ u = cc in
           let bad : IsBadGate d w k.rule cell x.0.at.square cause = subst (λ f. IsVerdict d w t k.rule cell x.0.at.square f) is k.verdict in
-          absurd (not_both d w u cell x.0.at.square ends m n cause (good_same d w u cell s x.0.at.square x.3 ends m n good) (subst (λ y. IsBadGate d w y cell x.0.at.square cause) same bad))
+          absurd (not_both d w u cell x.0.at.square sides m n cause (good_same d w u cell s x.0.at.square x.3 sides m n good) (subst (λ y. IsBadGate d w y cell x.0.at.square cause) same bad))
 
   once : (i j : ℕ) (x y : GoodGate) (u : Rule) → slice_get (good_gates v) i ≡ Some x → slice_get (good_gates v) j ≡ Some y → x.at.rule ≡ y.at.rule → slice_get rules x.at.rule ≡ Some u
       → InGate d (geometry w u) cell x.at.square y.at.square → i ≡ j

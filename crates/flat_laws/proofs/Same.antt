@@ -1,7 +1,7 @@
 -- A gate is the same by each of its squares.
 use Rattle.std.proofs.Common.{◌≡◌, ◌↔◌, inl, inr, ℕ, List, [], ◌∷◌, refl, ap, subst, map}
 use Rattle.flat_laws.specs.GateLaws.{SameGateLaw}
-use Rattle.flat_layout.specs.Gates.{Rule, Geometry, geometry, IsStep, InGate, IsGateOrRing, InSide, InOneGroup, Edge, Ends, TwoGroups, Region, Form, Beside, Alone, form_of, gate_sheet, sheets, IsBorder, IsWide, IsLong, AreGroups, IsGoodGate, IsBadGate}
+use Rattle.flat_layout.specs.Gates.{Rule, Geometry, geometry, IsStep, InGate, IsGateOrRing, InSide, InOneGroup, Edge, Sides, TwoGroups, Region, Form, Beside, Alone, form_of, gate_sheet, sheets, IsBorder, IsWide, IsLong, AreGroups, IsGoodGate, IsBadGate}
 use Rattle.flat_layout.specs.Layers.{InFlat}
 use Rattle.flat_layout.specs.Layout.{Design}
 use Rattle.flat_layout.specs.Parts.{AllOn, SomeOff, InEnds, IsGoodPart, IsBadPart, IsGoodArea, IsBadArea, IsGoodForm, IsBadForm}
@@ -73,14 +73,14 @@ module _ (d : Design) (w : Wiring) (u : Rule) (cell : ℕ) (s z : Square) (one :
     bulk_on = λ none q i. h.bulk_on none q ((in_same q).0 i);
   }
 
-  form_same : (form : Form) (ends : Ends) (m n : ℕ) → IsGoodForm form (sheets d w u cell) (InGate d geo cell s) ends m n → IsGoodForm form (sheets d w u cell) (InGate d geo cell z) ends m n
+  form_same : (form : Form) (sides : Sides) (m n : ℕ) → IsGoodForm form (sheets d w u cell) (InGate d geo cell s) sides m n → IsGoodForm form (sheets d w u cell) (InGate d geo cell z) sides m n
   form_same Beside (TwoGroups e f) m n h = part_same e f m n h
   form_same Beside Region m n h = absurd h
   form_same Alone (TwoGroups e f) m n h = absurd h
   form_same Alone Region m n h = area_same m n h
 
-  pub good_same : (ends : Ends) (m n : ℕ) → IsGoodGate d w u cell s ends m n → IsGoodGate d w u cell z ends m n
-  good_same ends m n h = form_same (form_of u.kind) ends m n h
+  pub good_same : (sides : Sides) (m n : ℕ) → IsGoodGate d w u cell s sides m n → IsGoodGate d w u cell z sides m n
+  good_same sides m n h = form_same (form_of u.kind) sides m n h
 
   same_groups : (list : List Edge) → AreGroups d w u cell s list → AreGroups d w u cell z list
   same_groups list h = subst (λ l. AreGroups d w u cell z l) (map_same list)

@@ -1,15 +1,17 @@
 -- The nodes of a settled good gate's terminal are in one region, and the top keeps all.
-use Rattle.std.proofs.Common.{◌≡◌, inl, inr, ℕ, ◌<◌, List, [], ◌∷◌, Some, None, length, refl, ◌∙◌, ap, subst}
+use Rattle.std.proofs.Common.{◌≡◌, inl, inr, ℕ, zero, suc, ◌<◌, List, [], ◌∷◌, Some, None, length, refl, ◌∙◌, ap, subst}
 use Rattle.flat_laws.specs.GateLaws.{GroundNodeLaw, IsReadWhole, TerminalNodeLaw}
 use Rattle.flat_laws.specs.LayerLaws.{TopKeptLaw}
-use Rattle.flat_layout.specs.Gates.{Rule, Geometry, geometry, ground, IsReadBy, IsStep, InGate, InSide, InOneGroup, Edge, IsWide, IsSettled, Ends, TwoGroups, Region, Form, Beside, Alone, Kind, Mos, Resistor, Diode, form_of, gate_sheet, sheets, IsRegionNode, IsGroupNode, IsGateNode, IsTerminalNode}
+use Rattle.flat_layout.specs.Gates.{Rule, Geometry, geometry, ground, IsReadBy, IsStep, InGate, InSide, InOneGroup, Edge, IsWide, IsSettled, Sides, TwoGroups, Region, Form, Beside, Alone, form_of, gate_sheet, sheets, IsRegionNode, IsGroupNode, IsGateNode, IsOtherNode, IsTerminalNode}
 use Rattle.flat_layout.specs.Parts.{AllOn, IsGoodForm}
 use Rattle.flat_layout.specs.Layers.{Formula, Input, Empty, Binary, Sized, inputs, reach, InFlat, IsKept, IsStirred}
 use Rattle.flat_layout.specs.Layout.{Design}
 use Rattle.flat_layout.specs.Regions.{Wiring, Node, At, Ground, IsNode, IsLink, InOneRegion, formula, ground_of, kept}
 use Rattle.geo_base.specs.declared.shapes.Square.{Square}
 use Rattle.plain_netlist.specs.Chains.{IsChain, Reaches}
-use Rattle.plain_netlist.specs.Netlist.{Pole, Source, Gate, Drain, Bulk}
+use Rattle.plain_netlist.specs.declared.kinds.DeviceKind.{DeviceKind}
+use Rattle.plain_netlist.specs.declared.kinds.DeviceKind.TheVariants.{Mos4, ResistorWithBulk, Diode}
+use Rattle.plain_netlist.specs.Devices.{Terminal, First, Second, Other}
 use Rattle.flat_laws.proofs.Names.{fewer_stirred}
 use Rattle.plain_netlist.proofs.Links.{stays, single, both, back, along}
 use Rattle.flat_laws.proofs.Squares.{edge_back}
@@ -92,52 +94,60 @@ module _ (d : Design) (w : Wiring) (u : Rule) (cell : ℕ) (s : Square) (settled
   at_ends : (a b m n : Node) → a ≡ m → b ≡ n → IsNode w (kept d w cell) a × InOneRegion w (kept d w cell) a b → IsNode w (kept d w cell) m × InOneRegion w (kept d w cell) m n
   at_ends a b m n p q h = (subst (λ x. IsNode w (kept d w cell) x) p h.0, subst (λ x. InOneRegion w (kept d w cell) m x) q (subst (λ x. InOneRegion w (kept d w cell) x b) p h.1))
 
-  group_pole : (x : Edge) (m n : Node) → IsWide d w u cell s x → AllOn (InEnd x) (InFlat d cell (formula w u.ts)) → IsGroupNode d w u cell s x m → IsGroupNode d w u cell s x n
+  group_terminal : (x : Edge) (m n : Node) → IsWide d w u cell s x → AllOn (InEnd x) (InFlat d cell (formula w u.ts)) → IsGroupNode d w u cell s x m → IsGroupNode d w u cell s x n
       → IsNode w (kept d w cell) m × InOneRegion w (kept d w cell) m n
-  group_pole x m n wide on h i = at_ends (At u.ts h.0) (At u.ts i.0) m n h.2 i.2 (on_end x wide on h.0 i.0 h.1 i.1)
+  group_terminal x m n wide on h i = at_ends (At u.ts h.0) (At u.ts i.0) m n h.2 i.2 (on_end x wide on h.0 i.0 h.1 i.1)
 
-  region_pole : (c : ℕ) (m n : Node) → IsReadBy geo (formula w c) → (ground_of c w.grounds ≡ None → AllOn (InGate d geo cell s) (InFlat d cell (formula w c))) → ((g : ℕ) → Ground g ≡ m → g < length w.globals)
+  region_terminal : (c : ℕ) (m n : Node) → IsReadBy geo (formula w c) → (ground_of c w.grounds ≡ None → AllOn (InGate d geo cell s) (InFlat d cell (formula w c))) → ((g : ℕ) → Ground g ≡ m → g < length w.globals)
       → IsRegionNode d w u cell s c m → IsRegionNode d w u cell s c n → IsNode w (kept d w cell) m × InOneRegion w (kept d w cell) m n
-  region_pole c m n read on known (inl h) (inl i) =
+  region_terminal c m n read on known (inl h) (inl i) =
       let same : h.0 ≡ i.0 = let a = h.1 in let b = i.1 in cc in
       let one : Ground h.0 ≡ n = ap Ground same ∙ i.2 in
       at_ends (Ground h.0) (Ground h.0) m n h.2 one (known h.0 h.2, stays R (Ground h.0) (Ground h.0) refl)
-  region_pole c m n read on known (inl h) (inr i) = let a = h.1 in let b = i.0 in cc
-  region_pole c m n read on known (inr h) (inl i) = let a = h.0 in let b = i.1 in cc
-  region_pole c m n read on known (inr h) (inr i) = at_ends (At c h.1.0) (At c i.1.0) m n h.1.2 i.1.2 (on_gate c read (on h.0) h.1.0 i.1.0 h.1.1 i.1.1)
+  region_terminal c m n read on known (inl h) (inr i) = let a = h.1 in let b = i.0 in cc
+  region_terminal c m n read on known (inr h) (inl i) = let a = h.0 in let b = i.1 in cc
+  region_terminal c m n read on known (inr h) (inr i) = at_ends (At c h.1.0) (At c i.1.0) m n h.1.2 i.1.2 (on_gate c read (on h.0) h.1.0 i.1.0 h.1.1 i.1.1)
 
   module _ (m n : Node) (known : (g : ℕ) → Ground g ≡ m → g < length w.globals) (bulk : ground w u ≡ None → AllOn (InGate d geo cell s) (InFlat d cell (formula w u.tb))) where
-    bulk_pole : IsRegionNode d w u cell s u.tb m → IsRegionNode d w u cell s u.tb n → IsNode w (kept d w cell) m × InOneRegion w (kept d w cell) m n
-    bulk_pole h i = region_pole u.tb m n whole.tb bulk known h i
+    bulk_terminal : IsRegionNode d w u cell s u.tb m → IsRegionNode d w u cell s u.tb n → IsNode w (kept d w cell) m × InOneRegion w (kept d w cell) m n
+    bulk_terminal h i = region_terminal u.tb m n whole.tb bulk known h i
 
-    gate_pole : (k : Kind) → AllOn (InGate d geo cell s) (gate_sheet k (InFlat d cell (formula w u.tg))) → IsGateNode k d w u cell s m → IsGateNode k d w u cell s n
+    gate_terminal : AllOn (InGate d geo cell s) (InFlat d cell (formula w u.tg)) → IsGateNode d w u cell s m → IsGateNode d w u cell s n → IsNode w (kept d w cell) m × InOneRegion w (kept d w cell) m n
+    gate_terminal on h i = at_ends (At u.tg h.0) (At u.tg i.0) m n h.2 i.2 (on_gate u.tg whole.tg on h.0 i.0 h.1 i.1)
+
+    -- of a region between two groups
+    beside_terminal : (k : DeviceKind) → form_of k ≡ Beside → (place : ℕ) → AllOn (InGate d geo cell s) (gate_sheet k (InFlat d cell (formula w u.tg))) → IsOtherNode k d w u cell s place m → IsOtherNode k d w u cell s place n
         → IsNode w (kept d w cell) m × InOneRegion w (kept d w cell) m n
-    gate_pole Mos on h i = at_ends (At u.tg h.0) (At u.tg i.0) m n h.2 i.2 (on_gate u.tg whole.tg on h.0 i.0 h.1 i.1)
-    gate_pole Resistor on h i = bulk_pole h i
-    gate_pole Diode on h i = bulk_pole h i
+    beside_terminal Mos4 is zero on h i = gate_terminal on h i
+    beside_terminal Mos4 is (suc zero) on h i = bulk_terminal h i
+    beside_terminal Mos4 is (suc (suc j)) on h i = absurd h
+    beside_terminal ResistorWithBulk is zero on h i = bulk_terminal h i
+    beside_terminal ResistorWithBulk is (suc j) on h i = absurd h
+    beside_terminal Diode is place on h i = absurd cc
 
     -- of a region alone
-    lone_gate : (k : Kind) → form_of k ≡ Alone → IsGateNode k d w u cell s m → IsGateNode k d w u cell s n → IsNode w (kept d w cell) m × InOneRegion w (kept d w cell) m n
-    lone_gate Mos is h i = absurd cc
-    lone_gate Resistor is h i = absurd cc
-    lone_gate Diode is h i = bulk_pole h i
+    alone_terminal : (k : DeviceKind) → form_of k ≡ Alone → (place : ℕ) → (ground_of u.ts w.grounds ≡ None → AllOn (InGate d geo cell s) (InFlat d cell (formula w u.ts))) → IsOtherNode k d w u cell s place m → IsOtherNode k d w u cell s place n
+        → IsNode w (kept d w cell) m × InOneRegion w (kept d w cell) m n
+    alone_terminal Mos4 is place on h i = absurd cc
+    alone_terminal ResistorWithBulk is place on h i = absurd cc
+    alone_terminal Diode is zero on h i = region_terminal u.ts m n whole.ts on known h i
+    alone_terminal Diode is (suc zero) on h i = bulk_terminal h i
+    alone_terminal Diode is (suc (suc j)) on h i = absurd h
 
-  by_form : (form : Form) → form_of u.kind ≡ form → (ends : Ends) (k l : ℕ) → IsGoodForm form (sheets d w u cell) (InGate d geo cell s) ends k l → (pole : Pole) (m n : Node)
-      → ((g : ℕ) → Ground g ≡ m → g < length w.globals) → IsTerminalNode d w u cell s ends pole m → IsTerminalNode d w u cell s ends pole n
+  by_form : (form : Form) → form_of u.kind ≡ form → (sides : Sides) (k l : ℕ) → IsGoodForm form (sheets d w u cell) (InGate d geo cell s) sides k l → (terminal : Terminal) (m n : Node)
+      → ((g : ℕ) → Ground g ≡ m → g < length w.globals) → IsTerminalNode d w u cell s sides terminal m → IsTerminalNode d w u cell s sides terminal n
       → IsNode w (kept d w cell) m × InOneRegion w (kept d w cell) m n
-  by_form Beside is (TwoGroups e f) k l form Source m n known h i = group_pole e m n (form.groups.each e (inl refl)) (λ q v. form.ends_on q (inl v)) h i
-  by_form Beside is (TwoGroups e f) k l form Drain m n known h i = group_pole f m n (form.groups.each f (inr (inl refl))) (λ q v. form.ends_on q (inr v)) h i
-  by_form Beside is (TwoGroups e f) k l form Gate m n known h i = gate_pole m n known form.bulk_on u.kind form.gate_on h i
-  by_form Beside is (TwoGroups e f) k l form Bulk m n known h i = bulk_pole m n known form.bulk_on h i
-  by_form Beside is Region k l form pole m n known h i = absurd form
-  by_form Alone is (TwoGroups e f) k l form pole m n known h i = absurd form
-  by_form Alone is Region k l form Source m n known h i = region_pole u.ts m n whole.ts form.ends_on known h i
-  by_form Alone is Region k l form Drain m n known h i = region_pole u.ts m n whole.ts form.ends_on known h i
-  by_form Alone is Region k l form Gate m n known h i = lone_gate m n known form.bulk_on u.kind is h i
-  by_form Alone is Region k l form Bulk m n known h i = bulk_pole m n known form.bulk_on h i
+  by_form Beside is (TwoGroups e f) k l form First m n known h i = group_terminal e m n (form.groups.each e (inl refl)) (λ q v. form.ends_on q (inl v)) h i
+  by_form Beside is (TwoGroups e f) k l form Second m n known h i = group_terminal f m n (form.groups.each f (inr (inl refl))) (λ q v. form.ends_on q (inr v)) h i
+  by_form Beside is (TwoGroups e f) k l form (Other place) m n known h i = beside_terminal m n known form.bulk_on u.kind is place form.gate_on h i
+  by_form Beside is Region k l form terminal m n known h i = absurd form
+  by_form Alone is (TwoGroups e f) k l form terminal m n known h i = absurd form
+  by_form Alone is Region k l form First m n known h i = absurd h
+  by_form Alone is Region k l form Second m n known h i = absurd h
+  by_form Alone is Region k l form (Other place) m n known h i = alone_terminal m n known form.bulk_on u.kind is place form.ends_on h i
 
 pub terminals : TerminalNodeLaw
-terminals d w u cell s ends k l pole m n reached settled form known h i = by_form d w u cell s settled (form_of u.kind) refl ends k l form pole m n known h i
+terminals d w u cell s sides k l terminal m n reached settled form known h i = by_form d w u cell s settled (form_of u.kind) refl sides k l form terminal m n known h i
 
 -- ---- globals
 
@@ -152,18 +162,25 @@ module _ (d : Design) (w : Wiring) (u : Rule) (cell : ℕ) (s : Square) (g : ℕ
   group_ground : (e : Edge) → IsGroupNode d w u cell s e (Ground g) → HasGround
   group_ground e h = let a = h.2 in absurd cc
 
-  gate_ground : (k : Kind) → IsGateNode k d w u cell s (Ground g) → HasGround
-  gate_ground Mos h = let a = h.2 in absurd cc
-  gate_ground Resistor h = region_ground u.tb h
-  gate_ground Diode h = region_ground u.tb h
+  gate_ground : IsGateNode d w u cell s (Ground g) → HasGround
+  gate_ground h = let a = h.2 in absurd cc
 
-  pole_ground : (ends : Ends) (pole : Pole) → IsTerminalNode d w u cell s ends pole (Ground g) → HasGround
-  pole_ground (TwoGroups e f) Source h = group_ground e h
-  pole_ground (TwoGroups e f) Drain h = group_ground f h
-  pole_ground Region Source h = region_ground u.ts h
-  pole_ground Region Drain h = region_ground u.ts h
-  pole_ground ends Gate h = gate_ground u.kind h
-  pole_ground ends Bulk h = region_ground u.tb h
+  other_ground : (k : DeviceKind) (place : ℕ) → IsOtherNode k d w u cell s place (Ground g) → HasGround
+  other_ground Mos4 zero h = gate_ground h
+  other_ground Mos4 (suc zero) h = region_ground u.tb h
+  other_ground Mos4 (suc (suc j)) h = absurd h
+  other_ground ResistorWithBulk zero h = region_ground u.tb h
+  other_ground ResistorWithBulk (suc j) h = absurd h
+  other_ground Diode zero h = region_ground u.ts h
+  other_ground Diode (suc zero) h = region_ground u.tb h
+  other_ground Diode (suc (suc j)) h = absurd h
+
+  terminal_ground : (sides : Sides) (terminal : Terminal) → IsTerminalNode d w u cell s sides terminal (Ground g) → HasGround
+  terminal_ground (TwoGroups e f) First h = group_ground e h
+  terminal_ground (TwoGroups e f) Second h = group_ground f h
+  terminal_ground Region First h = absurd h
+  terminal_ground Region Second h = absurd h
+  terminal_ground sides (Other place) h = other_ground u.kind place h
 
 pub grounds : GroundNodeLaw
-grounds d w u cell s ends pole g h = pole_ground d w u cell s g ends pole h
+grounds d w u cell s sides terminal g h = terminal_ground d w u cell s g sides terminal h

@@ -1,7 +1,7 @@
 -- The gates of the cells' lists, seen from the top along all paths, are the gates of the flat top,
 -- each once.
 use Rattle.std.specs.Prelude.{◌≡◌, ℕ, List, Some, slice_get}
-use Rattle.flat_layout.specs.Gates.{Ends, Rule, geometry, InGate, IsGoodGate, IsBadGate}
+use Rattle.flat_layout.specs.Gates.{Sides, Rule, geometry, InGate, IsGoodGate, IsBadGate}
 use Rattle.flat_layout.specs.Gates.{IsTerminalNode}
 use Rattle.flat_layout.specs.GateTables.{AreGates, Bad, GateEntry, GateRow, Good, IsGateRow}
 use Rattle.flat_layout.specs.GateTables.{Verdict}
@@ -11,7 +11,7 @@ use Rattle.flat_layout.specs.Nets.{Tables}
 use Rattle.flat_layout.specs.Regions.{Wiring, Node, At, Ground}
 use Rattle.geo_base.specs.declared.shapes.Square.{Square}
 use Rattle.plain_netlist.specs.Lists.{IsListed}
-use Rattle.plain_netlist.specs.Netlist.{Pole}
+use Rattle.plain_netlist.specs.Devices.{Terminal}
 use Rattle.flat_layout.specs.declared.cause.GateCause.{GateCause}
 
 -- the path takes a node of its end to a node: a square as it takes squares, a global to itself
@@ -32,14 +32,14 @@ pub record ShowsGate (d : Design) (gates : ℕ → List GateEntry) (path : List 
 pub record IsGoodAbove (d : Design) (w : Wiring) (t : Tables) (u : Rule) (path : List ℕ)
     (end : ℕ) (s : Square) (row : GateRow) (q : Square) : Type 0 where
   pub here : IsGateRow d w t u end s row
-  pub ends : Ends
-  pub good : IsGoodGate d w u d.top q ends row.twice_w row.twice_l
-  pub up : (pole : Pole) (n : Node) → IsTerminalNode d w u end s here.ends pole n
+  pub sides : Sides
+  pub good : IsGoodGate d w u d.top q sides row.twice_w row.twice_l
+  pub up : (terminal : Terminal) (n : Node) → IsTerminalNode d w u end s here.sides terminal n
       → (m : Node) × TakesNode d d.top path end n m
-      × IsTerminalNode d w u d.top q ends pole m
-  pub down : (pole : Pole) (m : Node) → IsTerminalNode d w u d.top q ends pole m
+      × IsTerminalNode d w u d.top q sides terminal m
+  pub down : (terminal : Terminal) (m : Node) → IsTerminalNode d w u d.top q sides terminal m
       → (n : Node) × TakesNode d d.top path end n m
-      × IsTerminalNode d w u end s here.ends pole n
+      × IsTerminalNode d w u end s here.sides terminal n
 
 -- the verdict on the gate in its list is that on the flat gate
 abbrev pub IsVerdictAbove : Design → Wiring → Tables → Rule → List ℕ → ℕ → Square → Verdict → Square
@@ -64,9 +64,9 @@ pub record AreFlatGates (d : Design) (w : Wiring) (t : Tables) (rules : List Rul
       → ShowsGate d gates path end x q → ShowsGate d gates other its_end y p
       → x.at.rule ≡ y.at.rule → slice_get rules x.at.rule ≡ Some u
       → InGate d (geometry w u) d.top q p → (path ≡ other) × (x ≡ y)
-  pub good : (u : Rule) (path : List ℕ) (end : ℕ) (x : GateEntry) (q : Square) (ends : Ends)
+  pub good : (u : Rule) (path : List ℕ) (end : ℕ) (x : GateEntry) (q : Square) (sides : Sides)
       (m n : ℕ) → ShowsGate d gates path end x q → slice_get rules x.at.rule ≡ Some u
-      → IsGoodGate d w u d.top q ends m n
+      → IsGoodGate d w u d.top q sides m n
       → (row : GateRow) × (x.verdict ≡ Good row) × (row.twice_w ≡ m) × (row.twice_l ≡ n)
   pub bad : (u : Rule) (path : List ℕ) (end : ℕ) (x : GateEntry) (q : Square) (c : GateCause)
       → ShowsGate d gates path end x q → slice_get rules x.at.rule ≡ Some u

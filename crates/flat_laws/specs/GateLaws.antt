@@ -1,16 +1,16 @@
 -- Gates of a placed cell and of its parent.
 use Rattle.std.specs.Prelude.{◌≡◌, ◌⊎◌, ◌↔◌, ℕ, ◌<◌, List, Some, length}
-use Rattle.flat_layout.specs.Gates.{Counts, Ends, Geometry, InGate, InOneGroup, InRing}
+use Rattle.flat_layout.specs.Gates.{Counts, Sides, Geometry, InGate, InOneGroup, InRing}
 use Rattle.flat_layout.specs.Gates.{InSide, IsBadGate, IsBorder, IsFound, IsGateBelow, IsGoodGate}
 use Rattle.flat_layout.specs.Gates.{IsListedGate, IsLong, IsReadBy, IsSettled, IsSoundGeometry}
-use Rattle.flat_layout.specs.Gates.{IsTerminalNode, IsWide, Rule, geometry, moved_ends}
+use Rattle.flat_layout.specs.Gates.{IsTerminalNode, IsWide, Rule, geometry, moved_sides}
 use Rattle.flat_layout.specs.Layers.{InFlat}
 use Rattle.flat_layout.specs.Layout.{Design, IsHeight, IsPlaced, IsReached, Place, Takes}
 use Rattle.flat_layout.specs.Regions.{Ground, InOneRegion, IsNode, Node, Wiring, kept, formula}
 use Rattle.flat_layout.specs.Regions.{ground_of}
 use Rattle.geo_base.specs.Motions.{moved_square}
 use Rattle.geo_base.specs.declared.shapes.Square.{Square}
-use Rattle.plain_netlist.specs.Netlist.{Pole}
+use Rattle.plain_netlist.specs.Devices.{Terminal}
 use Rattle.flat_layout.specs.declared.cause.GateCause.{GateCause}
 
 -- a rule's geometry reads each layer of the rule
@@ -52,11 +52,11 @@ pub record IsFormKept (d : Design) (w : Wiring) (u : Rule) (cell : ℕ) (p : Pla
       → Counts (InGate d (geometry w u) cell (moved_square p.motion s)) n
   pub border : (n : ℕ) → Counts (IsBorder d w u p.cell s) n
       → Counts (IsBorder d w u cell (moved_square p.motion s)) n
-  pub good : (ends : Ends) (m n : ℕ) → IsGoodGate d w u p.cell s ends m n
-      → IsGoodGate d w u cell (moved_square p.motion s) (moved_ends p.motion ends) m n
-  pub good_back : (ends : Ends) (m n : ℕ)
-      → IsGoodGate d w u cell (moved_square p.motion s) (moved_ends p.motion ends) m n
-      → IsGoodGate d w u p.cell s ends m n
+  pub good : (sides : Sides) (m n : ℕ) → IsGoodGate d w u p.cell s sides m n
+      → IsGoodGate d w u cell (moved_square p.motion s) (moved_sides p.motion sides) m n
+  pub good_back : (sides : Sides) (m n : ℕ)
+      → IsGoodGate d w u cell (moved_square p.motion s) (moved_sides p.motion sides) m n
+      → IsGoodGate d w u p.cell s sides m n
   pub bad : (c : GateCause) → IsBadGate d w u p.cell s c
       → IsBadGate d w u cell (moved_square p.motion s) c
 
@@ -87,23 +87,23 @@ TopLaw = (d : Design) (g : Geometry) (height : ℕ → ℕ) → IsHeight d heigh
 -- the nodes of a settled good gate's terminal are kept, and in one region, where the global, if the
 -- node is one, is known
 abbrev pub TerminalNodeLaw : Type 0
-TerminalNodeLaw = (d : Design) (w : Wiring) (u : Rule) (cell : ℕ) (s : Square) (ends : Ends)
-    (k l : ℕ) (pole : Pole) (m n : Node) → IsReached d cell → IsSettled d (geometry w u) cell s
-    → IsGoodGate d w u cell s ends k l
+TerminalNodeLaw = (d : Design) (w : Wiring) (u : Rule) (cell : ℕ) (s : Square) (sides : Sides)
+    (k l : ℕ) (terminal : Terminal) (m n : Node) → IsReached d cell
+    → IsSettled d (geometry w u) cell s → IsGoodGate d w u cell s sides k l
     → ((g : ℕ) → Ground g ≡ m → g < length w.globals)
-    → IsTerminalNode d w u cell s ends pole m → IsTerminalNode d w u cell s ends pole n
+    → IsTerminalNode d w u cell s sides terminal m → IsTerminalNode d w u cell s sides terminal n
     → IsNode w (kept d w cell) m × InOneRegion w (kept d w cell) m n
 
 -- a terminal's global is that of a conductor
 abbrev pub GroundNodeLaw : Type 0
-GroundNodeLaw = (d : Design) (w : Wiring) (u : Rule) (cell : ℕ) (s : Square) (ends : Ends)
-    (pole : Pole) (g : ℕ) → IsTerminalNode d w u cell s ends pole (Ground g)
+GroundNodeLaw = (d : Design) (w : Wiring) (u : Rule) (cell : ℕ) (s : Square) (sides : Sides)
+    (terminal : Terminal) (g : ℕ) → IsTerminalNode d w u cell s sides terminal (Ground g)
     → (c : ℕ) × (ground_of c w.grounds ≡ Some g)
 
 -- a good gate's square lies in the gates' layer
 abbrev pub GoodInLaw : Type 0
-GoodInLaw = (d : Design) (w : Wiring) (u : Rule) (cell : ℕ) (s : Square) (ends : Ends) (m n : ℕ)
-    → IsGoodGate d w u cell s ends m n → InFlat d cell u.gate s
+GoodInLaw = (d : Design) (w : Wiring) (u : Rule) (cell : ℕ) (s : Square) (sides : Sides) (m n : ℕ)
+    → IsGoodGate d w u cell s sides m n → InFlat d cell u.gate s
 
 -- a count is one number
 abbrev pub OneCountLaw : Type 0
@@ -116,14 +116,14 @@ OneCountLaw = (d : Design) (w : Wiring) (u : Rule) (cell : ℕ) (s : Square) (m 
 
 -- so a good gate has one pair of sizes
 abbrev pub OneSizesLaw : Type 0
-OneSizesLaw = (d : Design) (w : Wiring) (u : Rule) (cell : ℕ) (s : Square) (a b : Ends)
+OneSizesLaw = (d : Design) (w : Wiring) (u : Rule) (cell : ℕ) (s : Square) (a b : Sides)
     (m n k l : ℕ) → IsGoodGate d w u cell s a m n → IsGoodGate d w u cell s b k l
     → (m ≡ k) × (n ≡ l)
 
 -- a good gate isn't bad
 abbrev pub NotBothLaw : Type 0
-NotBothLaw = (d : Design) (w : Wiring) (u : Rule) (cell : ℕ) (s : Square) (ends : Ends) (m n : ℕ)
-    (c : GateCause) → IsGoodGate d w u cell s ends m n → IsBadGate d w u cell s c → ⊥
+NotBothLaw = (d : Design) (w : Wiring) (u : Rule) (cell : ℕ) (s : Square) (sides : Sides) (m n : ℕ)
+    (c : GateCause) → IsGoodGate d w u cell s sides m n → IsBadGate d w u cell s c → ⊥
 
 -- and a bad one has one cause
 abbrev pub OneCauseLaw : Type 0
@@ -134,11 +134,13 @@ OneCauseLaw = (d : Design) (w : Wiring) (u : Rule) (cell : ℕ) (s : Square) (a 
 abbrev pub SameGateLaw : Type 0
 SameGateLaw = (d : Design) (w : Wiring) (u : Rule) (cell : ℕ) (s q : Square)
     → InGate d (geometry w u) cell s q
-    → ((ends : Ends) (m n : ℕ) → IsGoodGate d w u cell s ends m n → IsGoodGate d w u cell q ends m n)
+    → ((sides : Sides) (m n : ℕ) → IsGoodGate d w u cell s sides m n
+    → IsGoodGate d w u cell q sides m n)
     × ((c : GateCause) → IsBadGate d w u cell s c → IsBadGate d w u cell q c)
 
 -- the image of a settled bad gate along a path is bad for the same cause
 abbrev pub CauseAlongLaw : Type 0
 CauseAlongLaw = (d : Design) (w : Wiring) (u : Rule) (path : List ℕ) (cell end : ℕ) (s q : Square)
-    (c : GateCause) → IsReached d cell → Takes d cell path end s q → IsSettled d (geometry w u) end s
+    (c : GateCause) → IsReached d cell → Takes d cell path end s q
+    → IsSettled d (geometry w u) end s
     → IsBadGate d w u end s c → IsBadGate d w u cell q c

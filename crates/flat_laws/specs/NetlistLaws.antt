@@ -3,12 +3,13 @@ use Rattle.std.specs.Prelude.{◌≡◌, ◌↔◌, ℕ, List, Some, slice_get}
 use Rattle.flat_layout.specs.Circuits.{IsCircuitCell}
 use Rattle.flat_layout.specs.Expanded.{AreTablesRight, CircuitTables, IsExpanded, IsFlatNetlist}
 use Rattle.flat_layout.specs.Expanded.{IsPartOfNet, ShowsNode}
-use Rattle.flat_layout.specs.Gates.{Kind, Mos, Resistor, Diode, Rule}
+use Rattle.flat_layout.specs.Gates.{Rule}
 use Rattle.flat_layout.specs.GateTables.{AreGates, GateEntry, good_gates}
 use Rattle.flat_layout.specs.Layout.{Design, IsReached}
 use Rattle.flat_layout.specs.Nets.{AreTables, Tables, NetHolds}
 use Rattle.flat_layout.specs.Regions.{InOneRegion, Node, Wiring, kept, IsNode, flat}
 use Rattle.flat_laws.specs.Planned.{AreGateRows, ArePlanned}
+use Rattle.plain_netlist.specs.Devices.{IsFormed}
 use Rattle.plain_netlist.specs.Netlist.{DeviceRow, InOneNet, IsDevice, IsTerminal, Netlist, Slot}
 
 -- the good ones of right gates are the rows of the good gates, each once
@@ -22,20 +23,14 @@ PlannedLaw = (d : Design) (w : Wiring) (t : Tables) (g : CircuitTables) (nl : Ne
     (rules : List Rule) (unit : ℕ) (level : ℕ → ℕ) → AreTablesRight d w t g nl rules unit level
     → ArePlanned d w t g nl rules unit
 
--- a resistor has its gate on its bulk; a diode too, and its drain on its source
-abbrev pub HasEqualPoles : Kind → DeviceRow → Type 0
-HasEqualPoles Mos row = Unit {0}
-HasEqualPoles Resistor row = row.gate ≡ row.bulk
-HasEqualPoles Diode row = (row.source ≡ row.drain) × (row.gate ≡ row.bulk)
-
--- a device has the class of its rule, and the poles that the rule's kind has on one net are so
-abbrev pub EqualPolesLaw : Type 0
-EqualPolesLaw = (d : Design) (w : Wiring) (t : Tables) (g : CircuitTables) (nl : Netlist)
+-- a device has the kind and the class of its rule, and the kind's terminals and sizes
+abbrev pub DeviceOfRuleLaw : Type 0
+DeviceOfRuleLaw = (d : Design) (w : Wiring) (t : Tables) (g : CircuitTables) (nl : Netlist)
     (rules : List Rule) (unit : ℕ) (level : ℕ → ℕ) → AreTablesRight d w t g nl rules unit level
     → (cell n i : ℕ) (row : DeviceRow) → IsReached d cell → IsCircuitCell g.cells n cell
     → IsDevice nl n i row
-    → (r : ℕ) × (u : Rule) × (slice_get rules r ≡ Some u) × (row.class ≡ u.class)
-    × HasEqualPoles u.kind row
+    → (r : ℕ) × (u : Rule) × (slice_get rules r ≡ Some u) × (row.kind ≡ u.kind)
+    × (row.class ≡ u.class) × IsFormed row
 
 -- terminals are on one net of the expanded netlist exactly where they are part of one net of the
 -- cell

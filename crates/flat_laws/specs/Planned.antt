@@ -2,7 +2,7 @@
 use Rattle.std.specs.Prelude.{◌≡◌, ◌⊎◌, ◌↔◌, ℕ, ◌<◌, List, Some, slice_get}
 use Rattle.flat_layout.specs.Circuits.{IsCircuitCell, IsDeviceOfGate, IsDrawn, IsDrawnBelow}
 use Rattle.flat_layout.specs.Expanded.{CircuitTables}
-use Rattle.flat_layout.specs.Gates.{Ends, Rule, geometry, InGate, IsGoodGate, IsListedGate}
+use Rattle.flat_layout.specs.Gates.{Sides, Rule, geometry, InGate, IsGoodGate, IsListedGate}
 use Rattle.flat_layout.specs.GateTables.{GoodGate, IsGateRow, good_gates}
 use Rattle.flat_layout.specs.Layout.{Design, Place, IsPlaced, IsReached}
 use Rattle.flat_layout.specs.Nets.{Child, Tables}
@@ -17,8 +17,8 @@ pub record AreGateRows (d : Design) (w : Wiring) (t : Tables) (rules : List Rule
   pub each : (i : ℕ) (x : GoodGate) → slice_get v i ≡ Some x
       → (u : Rule) × (slice_get rules x.at.rule ≡ Some u)
       × IsListedGate d (geometry w u) cell x.at.square × IsGateRow d w t u cell x.at.square x.row
-  pub found : (r : ℕ) (u : Rule) (s : Square) (ends : Ends) (m n : ℕ) → slice_get rules r ≡ Some u
-      → IsListedGate d (geometry w u) cell s → IsGoodGate d w u cell s ends m n
+  pub found : (r : ℕ) (u : Rule) (s : Square) (sides : Sides) (m n : ℕ) → slice_get rules r ≡ Some u
+      → IsListedGate d (geometry w u) cell s → IsGoodGate d w u cell s sides m n
       → (i : ℕ) × (x : GoodGate) × (slice_get v i ≡ Some x) × (x.at.rule ≡ r)
       × InGate d (geometry w u) cell s x.at.square
   pub once : (i j : ℕ) (x y : GoodGate) (u : Rule) → slice_get v i ≡ Some x → slice_get v j ≡ Some y

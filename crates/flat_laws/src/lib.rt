@@ -16,7 +16,7 @@ ghost use Rattle.flat_laws.specs.LayerLaws.{TopKeptLaw};
 ghost use Rattle.flat_laws.specs.NetLaws.{TouchLaw, RegionLaw, OneParentLaw, OneTableLaw, ReadLaw};
 ghost use Rattle.flat_laws.specs.NetLaws.{TogetherLaw};
 ghost use Rattle.flat_laws.specs.NetlistLaws.{RowsLaw, PlannedLaw, PartLaw, NetLaw, NetlistLaw};
-ghost use Rattle.flat_laws.specs.NetlistLaws.{EqualPolesLaw, FlatNetlistLaw, FlatRegionLaw};
+ghost use Rattle.flat_laws.specs.NetlistLaws.{DeviceOfRuleLaw, FlatNetlistLaw, FlatRegionLaw};
 ghost use Rattle.flat_laws.specs.SeedLaws.{ReachLaw, SeedLaw, ThroughLaw};
 ghost use Rattle.flat_laws.specs.SeedLaws.{CalmThroughLaw, TestLaw, BelowLaw, OwnSeedLaw};
 ghost use Rattle.flat_laws.specs.SeedLaws.{KeptPartLaw, ClosedLaw, PartedLaw};
@@ -107,7 +107,7 @@ pub fn own_gates()
 pub fn netlist()
     ensures rows { RowsLaw }
     ensures planned { PlannedLaw }
-    ensures poles { EqualPolesLaw }
+    ensures formed { DeviceOfRuleLaw }
     ensures part { PartLaw }
     ensures net { NetLaw }
     ensures devices { NetlistLaw }

@@ -2,15 +2,16 @@
 use Rattle.std.specs.Prelude.{◌≡◌, ◌⊎◌, ◌↔◌, ℕ, suc, ◌<◌, Bool, true, cond, ◌&&◌, List, [], ◌∷◌}
 use Rattle.std.specs.Prelude.{Some, map, length, get_or, slice_get}
 use Rattle.net_names.specs.Folding.{folded_bytes}
-use Rattle.flat_layout.specs.Gates.{Rule, width_of, length_of}
-use Rattle.flat_layout.specs.GateTables.{GateEntry, GoodGate, good_gates, terminal_net}
+use Rattle.flat_layout.specs.Gates.{Rule, sizes_of}
+use Rattle.flat_layout.specs.GateTables.{GateEntry, GoodGate, device_by, good_gates}
 use Rattle.flat_layout.specs.Layout.{Place, Design, IsPlaced}
 use Rattle.flat_layout.specs.Names.{net_names, circuit_names}
 use Rattle.flat_layout.specs.Nets.{Child, Tables, IsUnder, no_cell}
 use Rattle.flat_layout.specs.Order.{AreInOrder}
 use Rattle.flat_layout.specs.Pins.{CellPins, IsPinNet, IsNetOf, HasGate}
 use Rattle.plain_netlist.specs.Lists.{IsListed, AreApart, AreRising}
-use Rattle.plain_netlist.specs.Netlist.{Pole, DeviceRow, on, CallRow, Circuit, Netlist, IsCircuit}
+use Rattle.plain_netlist.specs.Devices.{IsRowOver}
+use Rattle.plain_netlist.specs.Netlist.{DeviceRow, CallRow, Circuit, Netlist, IsCircuit}
 use Rattle.plain_netlist.specs.Normal.{IsNormalCircuit}
 
 -- a truth for each net of a cell: whether it is drawn
@@ -92,16 +93,14 @@ pub record AreCircuitPins (pins : CellPins) (drawn : List Bool) (nets : List ℕ
   pub count : length c.pins ≡ length (pin_nets pins drawn)
   pub each : (i x : ℕ) → slice_get (pin_nets pins drawn) i ≡ Some x → slice_get nets i ≡ Some x
 
--- a device for a good gate: class and sizes in femtometres, each terminal on the circuit's net of
--- the gate's net
+-- a device for a good gate: its kind, its rule's class, its sizes, each terminal on the circuit's
+-- net of the gate's net
 pub record IsDeviceOfGate (rules : List Rule) (unit : ℕ) (nets : List ℕ) (gate : GoodGate)
     (row : DeviceRow) : Type 0 where
   pub rule : Rule
   pub is : slice_get rules gate.at.rule ≡ Some rule
-  pub class : row.class ≡ rule.class
-  pub width : row.width ≡ width_of rule unit gate.row.twice_w
-  pub length : row.length ≡ length_of rule unit gate.row.twice_l
-  pub poles : (pole : Pole) → slice_get nets (on pole row) ≡ Some (terminal_net pole gate.row)
+  pub over : IsRowOver (λ x a. slice_get nets a ≡ Some x)
+      (device_by rule (sizes_of rule unit gate.row.twice_w gate.row.twice_l) gate.row) row
 
 -- its devices are the cell's good gates, in order
 pub record AreCircuitDevices (rules : List Rule) (unit : ℕ) (gates : List GateEntry) (nets : List ℕ)

@@ -4,7 +4,7 @@ use Rattle.std.specs.Prelude.{◌≡◌, ◌↔◌, ℕ, Bool, List, [], ◌∷�
 use Rattle.geo_base.specs.Motions.{moved_square}
 use Rattle.geo_base.specs.declared.shapes.Square.{Square}
 use Rattle.flat_layout.specs.Circuits.{AreDrawn, AreCircuitCells, CircuitParts, IsNetlistOf}
-use Rattle.flat_layout.specs.Gates.{Rule, Ends, geometry, width_of, length_of, InGate, IsSettled}
+use Rattle.flat_layout.specs.Gates.{Rule, Sides, geometry, sizes_of, InGate, IsSettled}
 use Rattle.flat_layout.specs.Gates.{IsGoodGate, IsTerminalNode}
 use Rattle.flat_layout.specs.GateTables.{GateEntry, GoodGate, good_gates, AreGates}
 use Rattle.flat_layout.specs.Layers.{InFlat}
@@ -13,7 +13,8 @@ use Rattle.flat_layout.specs.Nets.{Child, Tables, NetHolds, AreTables}
 use Rattle.flat_layout.specs.Order.{AreLevels}
 use Rattle.flat_layout.specs.Pins.{CellPins, IsMarked, IsNetOf, ArePins}
 use Rattle.flat_layout.specs.Regions.{Wiring, Node, moved, InOneRegion, kept, flat}
-use Rattle.plain_netlist.specs.Netlist.{Pole, DeviceRow, on, Netlist, Slot, InOneNet, HasDevice}
+use Rattle.plain_netlist.specs.Devices.{Terminal, IsAt, IsFormed}
+use Rattle.plain_netlist.specs.Netlist.{DeviceRow, Netlist, Slot, InOneNet, HasDevice}
 use Rattle.plain_netlist.specs.Netlist.{IsTerminal, IsOnPin}
 
 -- what the phases behind the nets fill in: of each cell its gates, its pins, its drawn nets; the
@@ -62,19 +63,21 @@ IsGateOfDevice d g cell (c ∷ cs) i r q = (k : ℕ) × (p : Place)
     × (slice_get (g.parts cell).calls c ≡ Some k) × IsPlaced d cell k p × (s : Square)
     × IsGateOfDevice d g p.cell cs i r s × (moved_square p.motion s ≡ q)
 
--- the device is that of the flat gate
+-- the device is that of the flat gate: it has its rule's kind, class and terminals, and its sizes;
+-- the net of each terminal shows a node of the terminal
 pub record IsDeviceOf (d : Design) (w : Wiring) (t : Tables) (g : CircuitTables) (u : Rule)
     (unit cell : ℕ) (path : List ℕ) (row : DeviceRow) (s : Square) : Type 0 where
-  pub ends : Ends
+  pub sides : Sides
   pub twice_w : ℕ
   pub twice_l : ℕ
   pub settled : IsSettled d (geometry w u) cell s
-  pub good : IsGoodGate d w u cell s ends twice_w twice_l
+  pub good : IsGoodGate d w u cell s sides twice_w twice_l
+  pub kind : row.kind ≡ u.kind
   pub class : row.class ≡ u.class
-  pub width : row.width ≡ width_of u unit twice_w
-  pub length : row.length ≡ length_of u unit twice_l
-  pub nodes : (pole : Pole) → (n : Node) × IsTerminalNode d w u cell s ends pole n
-      × ShowsNode d t g cell path (on pole row) n
+  pub sizes : row.sizes ≡ sizes_of u unit twice_w twice_l
+  pub formed : IsFormed row
+  pub nodes : (terminal : Terminal) (a : ℕ) → IsAt terminal row a → (n : Node)
+      × IsTerminalNode d w u cell s sides terminal n × ShowsNode d t g cell path a n
 
 -- a device of the netlist for each good gate, and each once
 pub record AreDevices (d : Design) (w : Wiring) (t : Tables) (g : CircuitTables) (nl : Netlist)
@@ -82,8 +85,8 @@ pub record AreDevices (d : Design) (w : Wiring) (t : Tables) (g : CircuitTables)
   pub each : (path : List ℕ) (i : ℕ) (row : DeviceRow) → HasDevice nl n path i row
       → (r : ℕ) × (u : Rule) × (s : Square) × (slice_get rules r ≡ Some u)
       × IsGateOfDevice d g cell path i r s × IsDeviceOf d w t g u unit cell path row s
-  pub found : (r : ℕ) (u : Rule) (s : Square) (ends : Ends) (v l : ℕ) → slice_get rules r ≡ Some u
-      → IsSettled d (geometry w u) cell s → IsGoodGate d w u cell s ends v l
+  pub found : (r : ℕ) (u : Rule) (s : Square) (sides : Sides) (v l : ℕ) → slice_get rules r ≡ Some u
+      → IsSettled d (geometry w u) cell s → IsGoodGate d w u cell s sides v l
       → (path : List ℕ) × (i : ℕ) × (row : DeviceRow) × (q : Square) × HasDevice nl n path i row
       × IsGateOfDevice d g cell path i r q × InGate d (geometry w u) cell s q
   pub once : (a b : List ℕ) (i j : ℕ) (x y : DeviceRow) (r : ℕ) (u : Rule) (s q : Square)
@@ -108,8 +111,8 @@ pub record IsFlatNetlist (d : Design) (w : Wiring) (t : Tables) (g : CircuitTabl
   pub each : (path : List ℕ) (i : ℕ) (row : DeviceRow) → HasDevice nl n path i row
       → (r : ℕ) × (u : Rule) × (s : Square) × (slice_get rules r ≡ Some u)
       × IsGateOfDevice d g d.top path i r s × IsDeviceOf d w t g u unit d.top path row s
-  pub found : (r : ℕ) (u : Rule) (s : Square) (ends : Ends) (v l : ℕ) → slice_get rules r ≡ Some u
-      → InFlat d d.top u.gate s → IsGoodGate d w u d.top s ends v l
+  pub found : (r : ℕ) (u : Rule) (s : Square) (sides : Sides) (v l : ℕ) → slice_get rules r ≡ Some u
+      → InFlat d d.top u.gate s → IsGoodGate d w u d.top s sides v l
       → (path : List ℕ) × (i : ℕ) × (row : DeviceRow) × (q : Square) × HasDevice nl n path i row
       × IsGateOfDevice d g d.top path i r q × InGate d (geometry w u) d.top s q
   pub once : (a b : List ℕ) (i j : ℕ) (x y : DeviceRow) (r : ℕ) (u : Rule) (s q : Square)

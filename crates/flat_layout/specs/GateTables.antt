@@ -1,7 +1,7 @@
 -- The gates of a cell's list: good ones over the nets of the cell, bad ones with their cause.
 use Rattle.std.specs.Prelude.{◌≡◌, ◌⊎◌, ◌++◌, ℕ, ◌<◌, List, [], ◌∷◌, Some, slice_get}
 use Rattle.geo_base.specs.declared.shapes.Square.{Square}
-use Rattle.flat_layout.specs.Gates.{Rule, Ends, geometry, InGate, IsSettled, IsGateBelow}
+use Rattle.flat_layout.specs.Gates.{Rule, Sides, geometry, InGate, IsSettled, IsGateBelow}
 use Rattle.flat_layout.specs.Gates.{IsListedGate, IsLeast, IsGoodGate, IsBadGate, IsSourceFirst}
 use Rattle.flat_layout.specs.Gates.{IsTerminalNode}
 use Rattle.flat_layout.specs.Layout.{Design}
@@ -10,7 +10,8 @@ use Rattle.flat_layout.specs.Order.{IsOrder}
 use Rattle.flat_layout.specs.Plane.{IsSquareBefore}
 use Rattle.flat_layout.specs.Regions.{Wiring, Node}
 use Rattle.plain_netlist.specs.Lists.{IsListed, AreRising}
-use Rattle.plain_netlist.specs.Netlist.{Pole, Source, Gate, Drain, Bulk}
+use Rattle.plain_netlist.specs.declared.kinds.DeviceKind.{DeviceKind}
+use Rattle.plain_netlist.specs.Devices.{Ends, Row, Terminal, IsAt, IsFormed, nets_of}
 use Rattle.flat_layout.specs.declared.cause.GateCause.{GateCause}
 
 -- a gate, by its rule's number and one of its squares
@@ -22,40 +23,59 @@ pub record GateSquare : Type 0 where
 abbrev pub IsGateBefore : GateSquare → GateSquare → Type 0
 IsGateBefore a b = (a.rule < b.rule) ⊎ ((a.rule ≡ b.rule) × IsSquareBefore a.square b.square)
 
--- a good gate over the nets of its cell: twice its width and its length in squares, of a diode its
--- squares and twice its edges; and the nets of its terminals
+-- a good gate over the nets of its cell: its kind; twice its width and its length in squares, of a
+-- diode its squares and twice its edges; and the nets of its terminals, as a device's
 pub record GateRow : Type 0 where
+  pub kind : DeviceKind
   pub twice_w : ℕ
   pub twice_l : ℕ
-  pub source : ℕ
-  pub gate : ℕ
-  pub drain : ℕ
-  pub bulk : ℕ
+  pub ends : Ends ℕ
+  pub others : List ℕ
 
-abbrev pub terminal_net : Pole → GateRow → ℕ
-terminal_net Source r = r.source
-terminal_net Gate r = r.gate
-terminal_net Drain r = r.drain
-terminal_net Bulk r = r.bulk
+-- the device of this rule, with these sizes
+abbrev pub device_by : Rule → List ℕ → GateRow → Row ℕ
+device_by u sizes row = record {
+  kind = row.kind;
+  class = u.class;
+  sizes = sizes;
+  ends = row.ends;
+  others = row.others;
+}
+
+-- sizes as they are counted
+abbrev pub counted_device : Rule → GateRow → Row ℕ
+counted_device u row = device_by u (row.twice_l ∷ row.twice_w ∷ []) row
+
+-- the nets of its terminals
+abbrev pub gate_nets : GateRow → List ℕ
+gate_nets row = nets_of row.ends row.others
 
 -- the verdict on a gate
 pub data Verdict : Type 0 where
   Good : (row : GateRow) → Verdict
   Bad : (cause : GateCause) → Verdict
 
+-- and those of a good gate's terminals
+abbrev pub verdict_nets : Verdict → List ℕ
+verdict_nets (Good row) = gate_nets row
+verdict_nets (Bad cause) = []
+
 -- a gate of a cell's list, by its least square
 pub record GateEntry : Type 0 where
   pub at : GateSquare
   pub verdict : Verdict
 
--- the row of a good gate; its source is the group with the least square
+-- the row of a good gate: it has its rule's kind and the terminals of that, each on the net of a
+-- node of the terminal; its first end is the group with the least square
 pub record IsGateRow (d : Design) (w : Wiring) (t : Tables) (u : Rule) (cell : ℕ) (s : Square)
     (row : GateRow) : Type 0 where
-  pub ends : Ends
-  pub good : IsGoodGate d w u cell s ends row.twice_w row.twice_l
-  pub first : IsSourceFirst d w u cell s ends
-  pub nets : (pole : Pole) → (n : Node) × IsTerminalNode d w u cell s ends pole n
-      × NetHolds d t cell (terminal_net pole row) n
+  pub sides : Sides
+  pub good : IsGoodGate d w u cell s sides row.twice_w row.twice_l
+  pub first : IsSourceFirst d w u cell s sides
+  pub kind : row.kind ≡ u.kind
+  pub formed : IsFormed (counted_device u row)
+  pub nets : (terminal : Terminal) (x : ℕ) → IsAt terminal (counted_device u row) x
+      → (n : Node) × IsTerminalNode d w u cell s sides terminal n × NetHolds d t cell x n
 
 abbrev pub IsVerdict : Design → Wiring → Tables → Rule → ℕ → Square → Verdict → Type 0
 IsVerdict d w t u cell s (Good row) = IsGateRow d w t u cell s row

@@ -1,6 +1,7 @@
 -- The gates of a device rule in a cell: edge-connected parts of a flat layer, each with what lies
 -- round it.
-use Rattle.std.specs.Prelude.{◌≡◌, ◌⊎◌, ℕ, ◌*◌, ◌≤◌, max, List, ◌++◌, Option, Some, None}
+use Rattle.std.specs.Prelude.{◌≡◌, ◌⊎◌, ℕ, zero, suc, ◌*◌, ◌≤◌, max, List, [], ◌∷◌, ◌++◌, Option}
+use Rattle.std.specs.Prelude.{Some, None}
 use Rattle.geo_base.specs.Motions.{moved_square}
 use Rattle.geo_base.specs.declared.layer.LayerKey.{LayerKey}
 use Rattle.geo_base.specs.declared.motion.Motion.{Motion}
@@ -8,12 +9,14 @@ use Rattle.geo_base.specs.declared.shapes.Square.{Square}
 use Rattle.flat_layout.specs.Layers.{Formula, inputs, reach, InFlat, IsStirred}
 use Rattle.flat_layout.specs.Layout.{Place, Design, Some_of, IsPlaced, Takes}
 pub use Rattle.flat_layout.specs.Parts.{IsStep, IsLeast, Edge, Counts, AreClasses}
-pub use Rattle.flat_layout.specs.Parts.{Form, Beside, Alone, Ends, TwoGroups, Region}
+pub use Rattle.flat_layout.specs.Parts.{Form, Beside, Alone, Sides, TwoGroups, Region}
 use Rattle.flat_layout.specs.Parts.{InPart, IsCloseTo, InRingOf, InSideOf, InGroupOf, IsBorderOf}
 use Rattle.flat_layout.specs.Parts.{IsWideOf, IsLongOf, AreGroupsOf, Sheets, IsGoodForm, IsBadForm}
 use Rattle.flat_layout.specs.Plane.{IsSquareBefore}
 use Rattle.flat_layout.specs.Regions.{Wiring, Node, At, Ground, formula, ground_of}
-use Rattle.plain_netlist.specs.Netlist.{Pole, Source, Gate, Drain, Bulk}
+use Rattle.plain_netlist.specs.declared.kinds.DeviceKind.{DeviceKind}
+use Rattle.plain_netlist.specs.declared.kinds.DeviceKind.TheVariants.{Mos4, ResistorWithBulk, Diode}
+use Rattle.plain_netlist.specs.Devices.{Terminal, First, Second, Other}
 use Rattle.flat_layout.specs.declared.cause.GateCause.{GateCause}
 
 -- what the geometry of a kind of device reads: the layer whose parts are its gates, the input
@@ -74,25 +77,19 @@ pub record IsFound (d : Design) (g : Geometry) (cell : ℕ) (s : Square) : Type 
   pub image : InGate d g cell s place
   pub gate : IsListedGate d g end square
 
--- the kinds of devices
-pub data Kind : Type 0 where
-  Mos : Kind
-  Resistor : Kind
-  Diode : Kind
-
 -- a diode is its region; the others lie between two groups beside theirs
-abbrev pub form_of : Kind → Form
-form_of Mos = Beside
-form_of Resistor = Beside
+abbrev pub form_of : DeviceKind → Form
+form_of Mos4 = Beside
+form_of ResistorWithBulk = Beside
 form_of Diode = Alone
 
 -- a device rule: its class and kind; the layer whose parts are its regions (`gate`), that of the
 -- groups beside them, the well; and the conductors of the ends, of the gate and of the bulk. Only a
--- transistor has a gate of its own: a resistor's gate is its bulk. Of a diode the ends' conductor
--- is the anode's, the bulk's is the cathode's, and there are no groups and no well
+-- transistor has a gate of its own: of another device it says nothing. Of a diode the ends'
+-- conductor is the anode's, the bulk's is the cathode's, and there are no groups and no well
 pub record Rule : Type 0 where
   pub class : List ℕ
-  pub kind : Kind
+  pub kind : DeviceKind
   pub sd : Formula
   pub gate : Formula
   pub well : Formula
@@ -125,9 +122,9 @@ geometry w u = record { region = u.gate; keys = gate_inputs w u; reach = gate_re
 
 -- the width of a rule's devices in femtometres, from twice the width in squares, with the unit in
 -- picometres; of a diode its area in square picometres, from its squares
-abbrev pub width_by : Kind → ℕ → ℕ → ℕ
-width_by Mos unit twice_w = twice_w * (unit * 500)
-width_by Resistor unit twice_w = twice_w * (unit * 500)
+abbrev pub width_by : DeviceKind → ℕ → ℕ → ℕ
+width_by Mos4 unit twice_w = twice_w * (unit * 500)
+width_by ResistorWithBulk unit twice_w = twice_w * (unit * 500)
 width_by Diode unit squares = squares * (unit * unit)
 
 abbrev pub width_of : Rule → ℕ → ℕ → ℕ
@@ -136,6 +133,10 @@ width_of u unit n = width_by u.kind unit n
 -- and the length, from twice the length; of a diode its perimeter, from twice its edges
 abbrev pub length_of : Rule → ℕ → ℕ → ℕ
 length_of u unit twice_l = twice_l * (unit * 500)
+
+-- both, in the order of a device's sizes
+abbrev pub sizes_of : Rule → ℕ → ℕ → ℕ → List ℕ
+sizes_of u unit twice_w twice_l = length_of u unit twice_l ∷ width_of u unit twice_w ∷ []
 
 -- source or drain squares of the ring
 abbrev pub InSide : Design → Wiring → Rule → ℕ → Square → Square → Type 0
@@ -158,10 +159,10 @@ IsLong d w u cell s = IsLongOf (InGate d (geometry w u) cell s) (InFlat d cell u
 abbrev pub AreGroups : Design → Wiring → Rule → ℕ → Square → List Edge → Type 0
 AreGroups d w u cell s = AreGroupsOf (InGate d (geometry w u) cell s) (InFlat d cell u.sd)
 
--- each square passes where the gate's terminal is the bulk
-abbrev pub gate_sheet : Kind → (Square → Type 0) → Square → Type 0
-gate_sheet Mos on q = on q
-gate_sheet Resistor on q = Unit {0}
+-- each square passes where there is no gate
+abbrev pub gate_sheet : DeviceKind → (Square → Type 0) → Square → Type 0
+gate_sheet Mos4 on q = on q
+gate_sheet ResistorWithBulk on q = Unit {0}
 gate_sheet Diode on q = Unit {0}
 
 -- the flat sets of the cell by which the rule's regions are judged
@@ -175,8 +176,8 @@ sheets d w u cell = record {
   loose = ground w u ≡ None;
 }
 
--- a good region, with the ends of its device and its sizes
-abbrev pub IsGoodGate : Design → Wiring → Rule → ℕ → Square → Ends → ℕ → ℕ → Type 0
+-- a good region, with the sides of its device and its sizes
+abbrev pub IsGoodGate : Design → Wiring → Rule → ℕ → Square → Sides → ℕ → ℕ → Type 0
 IsGoodGate d w u cell s =
     IsGoodForm (form_of u.kind) (sheets d w u cell) (InGate d (geometry w u) cell s)
 
@@ -185,8 +186,8 @@ abbrev pub IsBadGate : Design → Wiring → Rule → ℕ → Square → GateCau
 IsBadGate d w u cell s =
     IsBadForm (form_of u.kind) (sheets d w u cell) (InGate d (geometry w u) cell s)
 
--- the source is the group with the least square
-abbrev pub IsSourceFirst : Design → Wiring → Rule → ℕ → Square → Ends → Type 0
+-- the first end, a transistor's source, is the group with the least square
+abbrev pub IsSourceFirst : Design → Wiring → Rule → ℕ → Square → Sides → Type 0
 IsSourceFirst d w u cell s (TwoGroups e f) = (p : Square) × InOneGroup d w u cell s e.outer p
     × ((q : Square) → InOneGroup d w u cell s f.outer q → IsSquareBefore p q)
 IsSourceFirst d w u cell s Region = Unit {0}
@@ -202,31 +203,40 @@ IsRegionNode d w u cell s c n =
 abbrev pub IsGroupNode : Design → Wiring → Rule → ℕ → Square → Edge → Node → Type 0
 IsGroupNode d w u cell s e n = (q : Square) × InOneGroup d w u cell s e.outer q × (At u.ts q ≡ n)
 
--- a node of the gate's terminal: a transistor's gate has no global
-abbrev pub IsGateNode : Kind → Design → Wiring → Rule → ℕ → Square → Node → Type 0
-IsGateNode Mos d w u cell s n = (q : Square) × InGate d (geometry w u) cell s q × (At u.tg q ≡ n)
-IsGateNode Resistor d w u cell s n = IsRegionNode d w u cell s u.tb n
-IsGateNode Diode d w u cell s n = IsRegionNode d w u cell s u.tb n
+-- nodes of the two ends, where a device has such
+abbrev pub IsFirstNode : Design → Wiring → Rule → ℕ → Square → Sides → Node → Type 0
+IsFirstNode d w u cell s (TwoGroups e f) n = IsGroupNode d w u cell s e n
+IsFirstNode d w u cell s Region n = ⊥
 
--- nodes of the two ends: both of a diode's are its anode
-abbrev pub IsSourceNode : Design → Wiring → Rule → ℕ → Square → Ends → Node → Type 0
-IsSourceNode d w u cell s (TwoGroups e f) n = IsGroupNode d w u cell s e n
-IsSourceNode d w u cell s Region n = IsRegionNode d w u cell s u.ts n
+abbrev pub IsSecondNode : Design → Wiring → Rule → ℕ → Square → Sides → Node → Type 0
+IsSecondNode d w u cell s (TwoGroups e f) n = IsGroupNode d w u cell s f n
+IsSecondNode d w u cell s Region n = ⊥
 
-abbrev pub IsDrainNode : Design → Wiring → Rule → ℕ → Square → Ends → Node → Type 0
-IsDrainNode d w u cell s (TwoGroups e f) n = IsGroupNode d w u cell s f n
-IsDrainNode d w u cell s Region n = IsRegionNode d w u cell s u.ts n
+-- a square of the region on the gate's conductor: a transistor's gate has no global
+abbrev pub IsGateNode : Design → Wiring → Rule → ℕ → Square → Node → Type 0
+IsGateNode d w u cell s n = (q : Square) × InGate d (geometry w u) cell s q × (At u.tg q ≡ n)
+
+-- nodes of the other terminals: a transistor's gate and bulk, a resistor's bulk, a diode's anode
+-- and cathode
+abbrev pub IsOtherNode : DeviceKind → Design → Wiring → Rule → ℕ → Square → ℕ → Node → Type 0
+IsOtherNode Mos4 d w u cell s zero n = IsGateNode d w u cell s n
+IsOtherNode Mos4 d w u cell s (suc zero) n = IsRegionNode d w u cell s u.tb n
+IsOtherNode Mos4 d w u cell s (suc (suc place)) n = ⊥
+IsOtherNode ResistorWithBulk d w u cell s zero n = IsRegionNode d w u cell s u.tb n
+IsOtherNode ResistorWithBulk d w u cell s (suc place) n = ⊥
+IsOtherNode Diode d w u cell s zero n = IsRegionNode d w u cell s u.ts n
+IsOtherNode Diode d w u cell s (suc zero) n = IsRegionNode d w u cell s u.tb n
+IsOtherNode Diode d w u cell s (suc (suc place)) n = ⊥
 
 -- the nodes of a good device's terminals
-abbrev pub IsTerminalNode : Design → Wiring → Rule → ℕ → Square → Ends → Pole → Node → Type 0
-IsTerminalNode d w u cell s ends Source n = IsSourceNode d w u cell s ends n
-IsTerminalNode d w u cell s ends Drain n = IsDrainNode d w u cell s ends n
-IsTerminalNode d w u cell s ends Gate n = IsGateNode u.kind d w u cell s n
-IsTerminalNode d w u cell s ends Bulk n = IsRegionNode d w u cell s u.tb n
+abbrev pub IsTerminalNode : Design → Wiring → Rule → ℕ → Square → Sides → Terminal → Node → Type 0
+IsTerminalNode d w u cell s sides First n = IsFirstNode d w u cell s sides n
+IsTerminalNode d w u cell s sides Second n = IsSecondNode d w u cell s sides n
+IsTerminalNode d w u cell s sides (Other place) n = IsOtherNode u.kind d w u cell s place n
 
 abbrev pub moved_edge : Motion → Edge → Edge
 moved_edge m e = record { inner = moved_square m e.inner; outer = moved_square m e.outer }
 
-abbrev pub moved_ends : Motion → Ends → Ends
-moved_ends m (TwoGroups e f) = TwoGroups (moved_edge m e) (moved_edge m f)
-moved_ends m Region = Region
+abbrev pub moved_sides : Motion → Sides → Sides
+moved_sides m (TwoGroups e f) = TwoGroups (moved_edge m e) (moved_edge m f)
+moved_sides m Region = Region

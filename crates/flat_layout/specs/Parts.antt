@@ -140,10 +140,10 @@ pub data Form : Type 0 where
   Beside : Form
   Alone : Form
 
--- where the ends of a device are: beyond an edge of each of two groups, or in its part
-pub data Ends : Type 0 where
-  TwoGroups : (source drain : Edge) → Ends
-  Region : Ends
+-- where the two ends of a device are: beyond an edge of each of two groups; or it has none
+pub data Sides : Type 0 where
+  TwoGroups : (first second : Edge) → Sides
+  Region : Sides
 
 -- a good part without groups: its squares are counted, and twice its boundary edges
 pub record IsGoodArea (g : Sheets) (part : Square → Type 0) (squares twice_edges : ℕ) : Type 0 where
@@ -162,10 +162,10 @@ IsBadArea g part NoBulk = (g.free → AllOn part g.on_ends) × g.loose × SomeOf
 IsBadArea g part cause = ⊥
 
 -- by the form
-abbrev pub IsGoodForm : Form → Sheets → (Square → Type 0) → Ends → ℕ → ℕ → Type 0
+abbrev pub IsGoodForm : Form → Sheets → (Square → Type 0) → Sides → ℕ → ℕ → Type 0
 IsGoodForm Beside g part (TwoGroups e f) w l = IsGoodPart g part e f w l
 IsGoodForm Alone g part Region w l = IsGoodArea g part w l
-IsGoodForm form g part ends w l = ⊥
+IsGoodForm form g part sides w l = ⊥
 
 abbrev pub IsBadForm : Form → Sheets → (Square → Type 0) → GateCause → Type 0
 IsBadForm Beside g part cause = IsBadPart g part cause

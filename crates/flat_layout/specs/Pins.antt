@@ -4,14 +4,13 @@ use Rattle.std.specs.Prelude.{slice_get}
 use Rattle.std.specs.Ordering.{is_lt, nat_cmp}
 use Rattle.std.specs.Cmp.Lexicographic.{slice_cmp}
 use Rattle.geo_base.specs.declared.shapes.Square.{Square}
-use Rattle.flat_layout.specs.GateTables.{GateEntry, GoodGate, good_gates, terminal_net}
+use Rattle.flat_layout.specs.GateTables.{GateEntry, GoodGate, gate_nets, good_gates}
 use Rattle.flat_layout.specs.Layout.{Place, Text, Design, Some_of, HasText, IsPlaced, Leads}
 use Rattle.flat_layout.specs.Layout.{IsReached}
 use Rattle.flat_layout.specs.Nets.{Item, Child, CellNets, Tables, IsOf, NetHolds}
 use Rattle.flat_layout.specs.Plane.{IsCorner}
 use Rattle.flat_layout.specs.Regions.{Wiring, Node, At, Ground}
 use Rattle.plain_netlist.specs.Lists.{IsListed, AreRising}
-use Rattle.plain_netlist.specs.Netlist.{Pole}
 
 -- a text of the cell, on a layer of texts that a line connects to the conductor, stands at a corner
 -- of the square
@@ -73,8 +72,7 @@ IsNetOf v item x = (i : ℕ) × IsOf v x i item
 -- a good gate of the cell has a terminal on the net
 abbrev pub HasGate : (ℕ → List GateEntry) → ℕ → ℕ → Type 0
 HasGate gates cell x = (i : ℕ) × (gate : GoodGate)
-    × (slice_get (good_gates (gates cell)) i ≡ Some gate) × (pole : Pole)
-    × (terminal_net pole gate.row ≡ x)
+    × (slice_get (good_gates (gates cell)) i ≡ Some gate) × IsListed x (gate_nets gate.row)
 
 -- what makes a placed cell's net a pin: its net in the parent has another item, a gate's terminal,
 -- or is a pin

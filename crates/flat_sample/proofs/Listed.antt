@@ -1,37 +1,43 @@
 -- The entries of the two transistors are right.
 use Rattle.std.proofs.Common.{◌≡◌, ◌⊎◌, inl, inr, ℕ, zero, suc, ◌<◌, [], ◌∷◌, Some, None, refl, sym, subst, arith}
+use Rattle.std.proofs.lemmas.Option.{same_Some}
 use Rattle.geo_base.specs.declared.shapes.Square.{Square}
 use Rattle.flat_layout.specs.Gates.{Rule, geometry, InGate, IsListedGate, IsSettled, IsGateBelow, IsTerminalNode, TwoGroups}
-use Rattle.flat_layout.specs.GateTables.{AreGates, GateEntry, GateRow, IsGateEntry, IsGateRow, terminal_net}
+use Rattle.flat_layout.specs.GateTables.{AreGates, GateEntry, GateRow, IsGateEntry, IsGateRow, counted_device}
 use Rattle.flat_layout.specs.Layout.{IsReached}
 use Rattle.flat_layout.specs.Nets.{Own, Child, Global, NetHolds}
 use Rattle.flat_layout.specs.Regions.{Node, At, Ground}
 use Rattle.flat_sample.proofs.Columns.{only_at, reached_two}
 use Rattle.flat_sample.proofs.Gated.{child_gate_of, across_gate_of, child_only, across_only, gates_parted}
 use Rattle.flat_sample.proofs.Lone.{InG, InS, geo, gate_self, group_self, gate_at, left_at, right_at, edge_to, form, first, least}
+use Rattle.flat_sample.proofs.Right.{none_some}
 use Rattle.flat_sample.proofs.Sides as sides
 use Rattle.flat_sample.proofs.Wires.{net_has}
 use Rattle.flat_sample.specs.Transistors.{at, gate_design, gate_wiring, gate_tables, rule, gate_rules, gate_on, entry, child_gate, across_gate, gates_of}
 use Rattle.plain_netlist.specs.Lists.{IsListed}
-use Rattle.plain_netlist.specs.Netlist.{Pole, Source, Gate, Drain, Bulk}
+use Rattle.plain_netlist.specs.Devices.{Terminal, First, Second, Other, IsAt}
 
 abbrev N : ℕ → ℕ → Node → Type 0
 N = NetHolds gate_design gate_tables
 
 nodes_of : (cell m source gate drain bulk : ℕ) → InG cell (gate_at m) → N cell source (At 0 (left_at m)) → N cell gate (At 1 (gate_at m)) → N cell drain (At 0 (right_at m)) → N cell bulk (Ground 0)
-    → (pole : Pole) → (n : Node) × IsTerminalNode gate_design gate_wiring rule cell (gate_at m) (TwoGroups (edge_to m (left_at m)) (edge_to m (right_at m))) pole n × N cell (terminal_net pole (gate_on source gate drain bulk)) n
-nodes_of cell m source gate drain bulk is s g d b Source = (At 0 (left_at m), (left_at m, group_self cell (gate_at m) (left_at m), refl), s)
-nodes_of cell m source gate drain bulk is s g d b Gate = (At 1 (gate_at m), (gate_at m, gate_self cell (gate_at m) (gate_at m) is refl, refl), g)
-nodes_of cell m source gate drain bulk is s g d b Drain = (At 0 (right_at m), (right_at m, group_self cell (gate_at m) (right_at m), refl), d)
-nodes_of cell m source gate drain bulk is s g d b Bulk = (Ground 0, inl (0, refl, refl), b)
+    → (t : Terminal) (x : ℕ) → IsAt t (counted_device rule (gate_on source gate drain bulk)) x
+    → (n : Node) × IsTerminalNode gate_design gate_wiring rule cell (gate_at m) (TwoGroups (edge_to m (left_at m)) (edge_to m (right_at m))) t n × N cell x n
+nodes_of cell m source gate drain bulk is s g d b First x (other, (e, f)) = (At 0 (left_at m), (left_at m, group_self cell (gate_at m) (left_at m), refl), subst (λ (y : ℕ). N cell y (At 0 (left_at m))) (sym e) s)
+nodes_of cell m source gate drain bulk is s g d b Second x (other, (e, f)) = (At 0 (right_at m), (right_at m, group_self cell (gate_at m) (right_at m), refl), subst (λ (y : ℕ). N cell y (At 0 (right_at m))) (sym f) d)
+nodes_of cell m source gate drain bulk is s g d b (Other zero) x e = (At 1 (gate_at m), (gate_at m, gate_self cell (gate_at m) (gate_at m) is refl, refl), subst (λ (y : ℕ). N cell y (At 1 (gate_at m))) (same_Some gate x e) g)
+nodes_of cell m source gate drain bulk is s g d b (Other (suc zero)) x e = (Ground 0, inl (0, refl, refl), subst (λ (y : ℕ). N cell y (Ground 0)) (same_Some bulk x e) b)
+nodes_of cell m source gate drain bulk is s g d b (Other (suc (suc j))) x e = none_some x e
 
 row_right : (cell m source gate drain bulk : ℕ) → InG cell (gate_at m) → InS cell (left_at m) → InS cell (right_at m)
     → N cell source (At 0 (left_at m)) → N cell gate (At 1 (gate_at m)) → N cell drain (At 0 (right_at m)) → N cell bulk (Ground 0)
     → IsGateRow gate_design gate_wiring gate_tables rule cell (gate_at m) (gate_on source gate drain bulk)
 row_right cell m source gate drain bulk is left right s g d b = record {
-  ends = TwoGroups (edge_to m (left_at m)) (edge_to m (right_at m));
+  sides = TwoGroups (edge_to m (left_at m)) (edge_to m (right_at m));
   good = form cell m is left right;
   first = first cell m is left right;
+  kind = refl;
+  formed = record { ends = refl; others = refl; sizes = refl };
   nets = nodes_of cell m source gate drain bulk is s g d b;
 }
 

@@ -4,17 +4,18 @@ use Rattle.std.proofs.lemmas.Int.{ints}
 use Rattle.std.proofs.lemmas.Option.{same_Some}
 use Rattle.geo_base.specs.declared.shapes.Square.{Square}
 use Rattle.flat_layout.specs.Circuits.{IsDrawn, IsDrawnBelow}
-use Rattle.flat_layout.specs.GateTables.{GateRow, GoodGate, terminal_net}
+use Rattle.flat_layout.specs.GateTables.{GateRow, GoodGate, gate_nets}
 use Rattle.flat_layout.specs.Layout.{Cell, HasText, Some_of, Text}
 use Rattle.flat_layout.specs.Nets.{Item, Child, Global, IsOf, NetHolds}
 use Rattle.flat_layout.specs.Pins.{HasGate, IsMarked, IsMarkedNet, IsNetOf, IsPinNet, IsTextOn, IsUsed, IsUsedAbove}
 use Rattle.flat_layout.specs.Plane.{IsCorner}
 use Rattle.flat_layout.specs.Regions.{Node, At, Ground}
 use Rattle.flat_sample.proofs.Columns.{only_at, one_place, lower_cell, placed_here, no_place, top_reached}
+use Rattle.flat_sample.proofs.Listing.{each_of_four}
 use Rattle.flat_sample.proofs.Right.{none_some}
 use Rattle.flat_sample.proofs.Wires.{node_of, parity, net_at, net_node, net_has}
 use Rattle.flat_sample.specs.Transistors.{at, drain_text, parent, mirror_place, gate_design, gate_wiring, nets_of, gate_tables, child_gate, across_gate, gates_of, pins_of, drawn_of}
-use Rattle.plain_netlist.specs.Netlist.{Pole, Source, Gate, Drain, Bulk}
+use Rattle.plain_netlist.specs.Lists.{IsListed}
 
 -- a good gate in column 1
 abbrev pub good : GateRow → GoodGate
@@ -25,34 +26,24 @@ not_true e = absurd (let z : ⊥ = cc in z)
 
 -- a gate's terminals are drawn
 pub gate_drawn : (cell x : ℕ) → HasGate gates_of cell x → IsDrawn drawn_of cell x
-gate_drawn zero x (i, gate, e, pole, f) = of_pole pole (ap (λ (g : GoodGate). terminal_net pole g.row) (sym (only_at (good child_gate) gate i e).1) ∙ f)
-  where
-    of_pole : (pole : Pole) → terminal_net pole child_gate ≡ x → IsDrawn drawn_of 0 x
-    of_pole Source e = subst (IsDrawn drawn_of 0) e refl
-    of_pole Gate e = subst (IsDrawn drawn_of 0) e refl
-    of_pole Drain e = subst (IsDrawn drawn_of 0) e refl
-    of_pole Bulk e = subst (IsDrawn drawn_of 0) e refl
-gate_drawn (suc zero) x (i, gate, e, pole, f) = of_pole pole (ap (λ (g : GoodGate). terminal_net pole g.row) (sym (only_at (good across_gate) gate i e).1) ∙ f)
-  where
-    of_pole : (pole : Pole) → terminal_net pole across_gate ≡ x → IsDrawn drawn_of 1 x
-    of_pole Source e = subst (IsDrawn drawn_of 1) e refl
-    of_pole Gate e = subst (IsDrawn drawn_of 1) e refl
-    of_pole Drain e = subst (IsDrawn drawn_of 1) e refl
-    of_pole Bulk e = subst (IsDrawn drawn_of 1) e refl
-gate_drawn (suc (suc n)) x (i, gate, e, pole, f) = none_some gate e
+gate_drawn zero x (i, gate, e, on) =
+    each_of_four (IsDrawn drawn_of 0) 1 2 0 3 refl refl refl refl x (subst (λ (g : GoodGate). IsListed x (gate_nets g.row)) (only_at (good child_gate) gate i e).1 on)
+gate_drawn (suc zero) x (i, gate, e, on) =
+    each_of_four (IsDrawn drawn_of 1) 3 1 0 5 refl refl refl refl x (subst (λ (g : GoodGate). IsListed x (gate_nets g.row)) (only_at (good across_gate) gate i e).1 on)
+gate_drawn (suc (suc n)) x (i, gate, e, on) = none_some gate e
 
 pub drawn_gate : (cell x : ℕ) → IsDrawn drawn_of cell x → HasGate gates_of cell x
-drawn_gate zero zero h = (0, good child_gate, refl, Source, refl)
-drawn_gate zero (suc zero) h = (0, good child_gate, refl, Drain, refl)
-drawn_gate zero (suc (suc zero)) h = (0, good child_gate, refl, Gate, refl)
-drawn_gate zero (suc (suc (suc zero))) h = (0, good child_gate, refl, Bulk, refl)
+drawn_gate zero zero h = (0, good child_gate, refl, inr (inr (inl refl)))
+drawn_gate zero (suc zero) h = (0, good child_gate, refl, inl refl)
+drawn_gate zero (suc (suc zero)) h = (0, good child_gate, refl, inr (inl refl))
+drawn_gate zero (suc (suc (suc zero))) h = (0, good child_gate, refl, inr (inr (inr (inl refl))))
 drawn_gate zero (suc (suc (suc (suc x)))) h = none_some true h
-drawn_gate (suc zero) zero h = (0, good across_gate, refl, Source, refl)
-drawn_gate (suc zero) (suc zero) h = (0, good across_gate, refl, Gate, refl)
+drawn_gate (suc zero) zero h = (0, good across_gate, refl, inr (inr (inl refl)))
+drawn_gate (suc zero) (suc zero) h = (0, good across_gate, refl, inr (inl refl))
 drawn_gate (suc zero) (suc (suc zero)) h = not_true h
-drawn_gate (suc zero) (suc (suc (suc zero))) h = (0, good across_gate, refl, Drain, refl)
+drawn_gate (suc zero) (suc (suc (suc zero))) h = (0, good across_gate, refl, inl refl)
 drawn_gate (suc zero) (suc (suc (suc (suc zero)))) h = not_true h
-drawn_gate (suc zero) (suc (suc (suc (suc (suc zero))))) h = (0, good across_gate, refl, Bulk, refl)
+drawn_gate (suc zero) (suc (suc (suc (suc (suc zero))))) h = (0, good across_gate, refl, inr (inr (inr (inl refl))))
 drawn_gate (suc zero) (suc (suc (suc (suc (suc (suc x)))))) h = none_some true h
 drawn_gate (suc (suc n)) x h = none_some true h
 
@@ -190,7 +181,7 @@ top_unused : (b : ℕ) → IsUsedAbove gate_design gate_tables gates_of pins_of 
 top_unused b h = let low = lower_cell h.parent h.number h.place h.placed in let e = h.here in absurd (omega arith)
 
 used_side : IsUsedAbove gate_design gate_tables gates_of pins_of 0 1
-used_side = record { parent = 1; number = 0; place = mirror_place; net = 3; reached = top_reached; placed = placed_here; here = refl; is_of = (3, record { listed = refl; numbered = refl }); used = inr (inl (0, good across_gate, refl, Drain, refl)) }
+used_side = record { parent = 1; number = 0; place = mirror_place; net = 3; reached = top_reached; placed = placed_here; here = refl; is_of = (3, record { listed = refl; numbered = refl }); used = inr (inl (0, good across_gate, refl, inl refl)) }
 
 child_marked : IsMarkedNet gate_design gate_wiring gate_tables 0 3
 child_marked = record { node = Ground 0; holds = net_has 0 3 3 (Global 0) None (record { listed = refl; numbered = refl }) refl; marked = tt }

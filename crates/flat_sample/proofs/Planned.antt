@@ -4,7 +4,7 @@ use Rattle.std.specs.Prelude.{decimal}
 use Rattle.std.proofs.lemmas.Fmt.{decimal_digit}
 use Rattle.std.proofs.lemmas.Option.{same_Some}
 use Rattle.flat_layout.specs.Circuits.{AreCircuitCells, AreDrawn, HasCircuit, IsCallOf, IsCircuitOf, IsDeviceOfGate, IsDrawn, IsNetlistOf, drawn_names}
-use Rattle.flat_layout.specs.GateTables.{terminal_net}
+use Rattle.flat_layout.specs.GateTables.{device_by}
 use Rattle.flat_layout.specs.Layout.{Place, Text, IsPlaced, IsReached}
 use Rattle.flat_layout.specs.Nets.{Child, Global, NetHolds}
 use Rattle.flat_layout.specs.Pins.{ArePins, IsBase, IsNetOf, IsTag}
@@ -15,10 +15,11 @@ use Rattle.flat_sample.proofs.Pinned.{IsMarkable, drain_holds, drain_on, drawn_f
 use Rattle.flat_sample.proofs.Right.{none_some}
 use Rattle.flat_sample.proofs.Wires.{net_at, net_has}
 use Rattle.flat_sample.specs.Sample.{sample_level}
-use Rattle.flat_sample.specs.Transistors.{at, drain_text, big_d, mirror_place, gate_design, gate_wiring, gate_tables, vss, gate_rules, rule, child_gate, across_gate, gates_of, pins_of, drawn_of, parts_of, row_on, dollar, big_vss, child_circuit, parent_circuit, gate_netlist}
+use Rattle.flat_sample.specs.Transistors.{at, drain_text, big_d, mirror_place, gate_design, gate_wiring, gate_tables, vss, gate_rules, rule, child_gate, across_gate, gate_on, gates_of, pins_of, drawn_of, parts_of, row_on, dollar, big_vss, child_circuit, parent_circuit, gate_netlist}
 use Rattle.plain_netlist.specs.Lists.{AreApart, IsListed}
 use Rattle.plain_netlist.proofs.Listing.{at_apart}
-use Rattle.plain_netlist.specs.Netlist.{Pole, Source, Gate, Drain, Bulk, on, CallRow, Circuit, IsCircuit}
+use Rattle.plain_netlist.specs.Devices.{IsRowOver}
+use Rattle.plain_netlist.specs.Netlist.{CallRow, Circuit, IsCircuit}
 
 -- tags are the global's name, and the parent's text
 abbrev IsKnownTag : ℕ → ℕ → List ℕ → Type 0
@@ -227,23 +228,14 @@ parent_named a k x e f =
     each_at (λ i y. slice_get parent_circuit.nets i ≡ slice_get parent_four (parent_order y)) parent_nets (refl, (refl, (refl, (refl, tt)))) a x e
     ∙ ap (slice_get parent_four) (sym spot) ∙ ap (λ (l : List (List ℕ)). slice_get l k) (sym parent_names_are)
 
-child_poles : (pole : Pole) → slice_get child_nets (on pole (row_on 3 2 0 1)) ≡ Some (terminal_net pole child_gate)
-child_poles Source = refl
-child_poles Gate = refl
-child_poles Drain = refl
-child_poles Bulk = refl
-
-parent_poles : (pole : Pole) → slice_get parent_nets (on pole (row_on 3 2 0 1)) ≡ Some (terminal_net pole across_gate)
-parent_poles Source = refl
-parent_poles Gate = refl
-parent_poles Drain = refl
-parent_poles Bulk = refl
+device_row : {R : ℕ → ℕ → Type 0} (source gate drain bulk a b c d : ℕ) → R source a → R gate b → R drain c → R bulk d → IsRowOver R (device_by rule (1000000 ∷ 1000000 ∷ []) (gate_on source gate drain bulk)) (row_on a b c d)
+device_row source gate drain bulk a b c d s g e f = record { kind = refl; class = refl; sizes = refl; ends = (s, e); others = (g, (f, tt)) }
 
 child_row : IsDeviceOfGate gate_rules 1000 child_nets (good child_gate) (row_on 3 2 0 1)
-child_row = record { rule = rule; is = refl; class = refl; width = refl; length = refl; poles = child_poles }
+child_row = record { rule = rule; is = refl; over = device_row 0 2 1 3 3 2 0 1 refl refl refl refl }
 
 parent_row : IsDeviceOfGate gate_rules 1000 parent_nets (good across_gate) (row_on 3 2 0 1)
-parent_row = record { rule = rule; is = refl; class = refl; width = refl; length = refl; poles = parent_poles }
+parent_row = record { rule = rule; is = refl; over = device_row 0 1 3 5 3 2 0 1 refl refl refl refl }
 
 abbrev Right : ℕ → ℕ → Circuit → Type 0
 Right n cell c = IsCircuitOf gate_design gate_tables gates_of pins_of drawn_of gate_rules 1000 (0 ∷ (1 ∷ [])) n cell (parts_of cell) c

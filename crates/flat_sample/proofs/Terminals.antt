@@ -9,6 +9,7 @@ use Rattle.flat_layout.specs.Expanded.{IsPartOfNet, ShowsNode}
 use Rattle.flat_layout.specs.Nets.{Own, Child, Global, NetHolds}
 use Rattle.flat_layout.specs.Regions.{Node, At, Ground, IsNode, InOneRegion, kept, flat}
 use Rattle.flat_sample.proofs.Columns.{only_at, placed_here, moved_column, top_reached, poly_at, parent_poly, poly_above}
+use Rattle.flat_sample.proofs.Listing.{each_of_four}
 use Rattle.flat_sample.proofs.Right.{none_some}
 use Rattle.flat_sample.proofs.Sides.{top_sides, across_left, across_right, last_side, top_kept}
 use Rattle.flat_sample.proofs.Whole.{right}
@@ -16,8 +17,9 @@ use Rattle.flat_sample.proofs.Wires.{node_of, shows, net_at, one_node, wired, ne
 use Rattle.flat_sample.specs.Expansion.{IsAcrossDevice, IsChildDevice, node_at, top_net, flat_nodes}
 use Rattle.flat_sample.specs.Sample.{sample_level}
 use Rattle.flat_sample.specs.Transistors.{mirror_place, at, gate_design, gate_wiring, gate_tables, gate_rules, gate_circuits, row_on, child_circuit, parent_circuit, gate_netlist}
+use Rattle.plain_netlist.specs.Devices.{terminal_nets}
 use Rattle.plain_netlist.specs.Lists.{IsListed}
-use Rattle.plain_netlist.specs.Netlist.{Pole, Source, Gate, Drain, Bulk, DeviceRow, on, CallRow, Circuit, IsCall, IsDevice, IsPin, Slot, slot, InOneNet, HasDevice, IsTerminal, IsOnPin}
+use Rattle.plain_netlist.specs.Netlist.{DeviceRow, CallRow, Circuit, IsCall, IsDevice, IsPin, Slot, slot, InOneNet, HasDevice, IsTerminal, IsOnPin}
 
 child_device : (i : ℕ) (row : DeviceRow) → IsDevice gate_netlist 0 i row → (i ≡ 0) × (row ≡ row_on 3 2 0 1)
 child_device i row (c, is, e) = only_at (row_on 3 2 0 1) row i (subst (λ (k : Circuit). slice_get k.devices i ≡ Some row) (sym (same_Some _ _ is)) e)
@@ -64,30 +66,26 @@ pub record Ends (path : List ℕ) (net : ℕ) : Type 0 where
   pub climbs : IsPartOfNet gate_design gate_tables gate_circuits 1 path net (top_net path net)
   pub sees : ShowsNode gate_design gate_tables gate_circuits 1 path net (node_of node)
 
-across_ends : (pole : Pole) → Ends [] (on pole (row_on 3 2 0 1))
-across_ends Source = record { node = Some 0; is = refl; there = refl; back = refl; climbs = refl; sees = (0, refl, net_has 1 0 0 (Own 0 0) (Some 0) (record { listed = refl; numbered = refl }) refl) }
-across_ends Gate = record { node = Some 1; is = refl; there = refl; back = refl; climbs = refl; sees = (1, refl, net_has 1 1 1 (Own 1 0) (Some 1) (record { listed = refl; numbered = refl }) refl) }
-across_ends Drain = record { node = Some 2; is = refl; there = refl; back = refl; climbs = refl; sees = (3, refl, net_has 1 3 3 (Child 0 1) (Some 2) (record { listed = refl; numbered = refl }) refl) }
-across_ends Bulk = record { node = None; is = refl; there = refl; back = refl; climbs = refl; sees = (5, refl, net_has 1 5 6 (Global 0) None (record { listed = refl; numbered = refl }) refl) }
+abbrev IsOnRow : ℕ → Type 0
+IsOnRow net = IsListed net (terminal_nets (row_on 3 2 0 1))
 
-child_ends : (pole : Pole) → Ends (0 ∷ []) (on pole (row_on 3 2 0 1))
-child_ends Source = record {
-  node = Some 4;
-  is = refl;
-  there = refl;
-  back = refl;
-  climbs = (0, mirror_place, refl, placed_here, 0, refl, (2, record { listed = refl; numbered = refl }));
-  sees = (0, mirror_place, refl, placed_here, At 0 (at 0), (0, refl, net_has 0 0 0 (Own 0 0) (Some 0) (record { listed = refl; numbered = refl }) refl), ap (At 0) (moved_column mirror_place 0 4 refl refl));
-}
-child_ends Gate = record {
-  node = Some 3;
-  is = refl;
-  there = refl;
-  back = refl;
-  climbs = (0, mirror_place, refl, placed_here, 2, refl, (4, record { listed = refl; numbered = refl }));
-  sees = (0, mirror_place, refl, placed_here, At 1 (at 1), (2, refl, net_has 0 2 2 (Own 1 0) (Some 1) (record { listed = refl; numbered = refl }) refl), ap (At 1) (moved_column mirror_place 1 3 refl refl));
-}
-child_ends Drain = record {
+across_drain : Ends [] 0
+across_drain = record { node = Some 2; is = refl; there = refl; back = refl; climbs = refl; sees = (3, refl, net_has 1 3 3 (Child 0 1) (Some 2) (record { listed = refl; numbered = refl }) refl) }
+
+across_gate : Ends [] 2
+across_gate = record { node = Some 1; is = refl; there = refl; back = refl; climbs = refl; sees = (1, refl, net_has 1 1 1 (Own 1 0) (Some 1) (record { listed = refl; numbered = refl }) refl) }
+
+across_source : Ends [] 3
+across_source = record { node = Some 0; is = refl; there = refl; back = refl; climbs = refl; sees = (0, refl, net_has 1 0 0 (Own 0 0) (Some 0) (record { listed = refl; numbered = refl }) refl) }
+
+across_bulk : Ends [] 1
+across_bulk = record { node = None; is = refl; there = refl; back = refl; climbs = refl; sees = (5, refl, net_has 1 5 6 (Global 0) None (record { listed = refl; numbered = refl }) refl) }
+
+across_ends : (net : ℕ) → IsOnRow net → Ends [] net
+across_ends = each_of_four (Ends []) 0 2 3 1 across_drain across_gate across_source across_bulk
+
+child_drain : Ends (0 ∷ []) 0
+child_drain = record {
   node = Some 2;
   is = refl;
   there = refl;
@@ -95,7 +93,29 @@ child_ends Drain = record {
   climbs = (0, mirror_place, refl, placed_here, 1, refl, (3, record { listed = refl; numbered = refl }));
   sees = (0, mirror_place, refl, placed_here, At 0 (at 2), (1, refl, net_has 0 1 1 (Own 0 1) (Some 2) (record { listed = refl; numbered = refl }) refl), ap (At 0) (moved_column mirror_place 2 2 refl refl));
 }
-child_ends Bulk = record {
+
+child_gate : Ends (0 ∷ []) 2
+child_gate = record {
+  node = Some 3;
+  is = refl;
+  there = refl;
+  back = refl;
+  climbs = (0, mirror_place, refl, placed_here, 2, refl, (4, record { listed = refl; numbered = refl }));
+  sees = (0, mirror_place, refl, placed_here, At 1 (at 1), (2, refl, net_has 0 2 2 (Own 1 0) (Some 1) (record { listed = refl; numbered = refl }) refl), ap (At 1) (moved_column mirror_place 1 3 refl refl));
+}
+
+child_source : Ends (0 ∷ []) 3
+child_source = record {
+  node = Some 4;
+  is = refl;
+  there = refl;
+  back = refl;
+  climbs = (0, mirror_place, refl, placed_here, 0, refl, (2, record { listed = refl; numbered = refl }));
+  sees = (0, mirror_place, refl, placed_here, At 0 (at 0), (0, refl, net_has 0 0 0 (Own 0 0) (Some 0) (record { listed = refl; numbered = refl }) refl), ap (At 0) (moved_column mirror_place 0 4 refl refl));
+}
+
+child_bulk : Ends (0 ∷ []) 1
+child_bulk = record {
   node = None;
   is = refl;
   there = refl;
@@ -104,12 +124,15 @@ child_ends Bulk = record {
   sees = (0, mirror_place, refl, placed_here, Ground 0, (3, refl, net_has 0 3 3 (Global 0) None (record { listed = refl; numbered = refl }) refl), refl);
 }
 
-ends_of : (path : List ℕ) (net i : ℕ) (row : DeviceRow) (pole : Pole) → IsAcrossDevice path i row ⊎ IsChildDevice path i row → on pole row ≡ net → Ends path net
-ends_of path net i row pole (inl (e, f, g)) h = subst (λ (k : List ℕ). Ends k net) (sym e) (subst (Ends []) (ap (on pole) (sym g) ∙ h) (across_ends pole))
-ends_of path net i row pole (inr (e, f, g)) h = subst (λ (k : List ℕ). Ends k net) (sym e) (subst (Ends (0 ∷ [])) (ap (on pole) (sym g) ∙ h) (child_ends pole))
+child_ends : (net : ℕ) → IsOnRow net → Ends (0 ∷ []) net
+child_ends = each_of_four (Ends (0 ∷ [])) 0 2 3 1 child_drain child_gate child_source child_bulk
+
+ends_of : (path : List ℕ) (net i : ℕ) (row : DeviceRow) → IsAcrossDevice path i row ⊎ IsChildDevice path i row → IsListed net (terminal_nets row) → Ends path net
+ends_of path net i row (inl (e, f, g)) h = subst (λ (k : List ℕ). Ends k net) (sym e) (across_ends net (subst (λ (r : DeviceRow). IsListed net (terminal_nets r)) g h))
+ends_of path net i row (inr (e, f, g)) h = subst (λ (k : List ℕ). Ends k net) (sym e) (child_ends net (subst (λ (r : DeviceRow). IsListed net (terminal_nets r)) g h))
 
 ends : (a : Slot) → IsTerminal gate_netlist 1 a → Ends a.path a.net
-ends a h = ends_of a.path a.net h.device h.row h.pole (device_out a.path h.device h.row h.has) h.on
+ends a h = ends_of a.path a.net h.device h.row (device_out a.path h.device h.row h.has) h.on
 
 pub sees : (a : Slot) → IsTerminal gate_netlist 1 a → ShowsNode gate_design gate_tables gate_circuits 1 a.path a.net (node_at a.path a.net)
 sees a h = let s = ends a h in subst (ShowsNode gate_design gate_tables gate_circuits 1 a.path a.net) (sym s.is) s.sees
@@ -130,8 +153,8 @@ one_net a b h g =
     )
 
 -- the pins are drain and bulk of the transistor across both
-pin_net : (pole : Pole) (a : ℕ) → on pole (row_on 3 2 0 1) ≡ a → IsTerminal gate_netlist 1 (slot [] a)
-pin_net pole a e = record { device = 0; row = row_on 3 2 0 1; pole = pole; has = (parent_circuit, refl, refl); on = e }
+pin_net : (a : ℕ) → IsOnRow a → IsTerminal gate_netlist 1 (slot [] a)
+pin_net a on = record { device = 0; row = row_on 3 2 0 1; has = (parent_circuit, refl, refl); on = on }
 
 pin_two : (i n : ℕ) → IsPin gate_netlist 1 i n → (n ≡ 0) ⊎ (n ≡ 1)
 pin_two i n (c, is, e) = two i (subst (λ (k : Circuit). slice_get k.pins i ≡ Some n) (sym (same_Some _ _ is)) e)
@@ -144,12 +167,12 @@ pin_two i n (c, is, e) = two i (subst (λ (k : Circuit). slice_get k.pins i ≡ 
 pub on_pin : (a : Slot) → IsTerminal gate_netlist 1 a → IsOnPin gate_netlist 1 a ↔ ((node_at a.path a.net ≡ Ground 0) ⊎ (node_at a.path a.net ≡ At 0 (at 2)))
 on_pin a h = (
   (λ (i, n, pin, joined). elim (pin_two i n pin) [
-    | inl e ↦ inr ((one_net a (slot [] 0) h (pin_net Drain 0 refl)).0 (subst (λ k. InOneNet gate_netlist 1 a (slot [] k)) e joined))
-    | inr e ↦ inl ((one_net a (slot [] 1) h (pin_net Bulk 1 refl)).0 (subst (λ k. InOneNet gate_netlist 1 a (slot [] k)) e joined))
+    | inl e ↦ inr ((one_net a (slot [] 0) h (pin_net 0 (inl refl))).0 (subst (λ k. InOneNet gate_netlist 1 a (slot [] k)) e joined))
+    | inr e ↦ inl ((one_net a (slot [] 1) h (pin_net 1 (inr (inr (inr (inl refl)))))).0 (subst (λ k. InOneNet gate_netlist 1 a (slot [] k)) e joined))
   ]),
   (λ e. elim e [
-    | inl f ↦ (1, 1, (parent_circuit, refl, refl), (one_net a (slot [] 1) h (pin_net Bulk 1 refl)).1 f)
-    | inr f ↦ (0, 0, (parent_circuit, refl, refl), (one_net a (slot [] 0) h (pin_net Drain 0 refl)).1 f)
+    | inl f ↦ (1, 1, (parent_circuit, refl, refl), (one_net a (slot [] 1) h (pin_net 1 (inr (inr (inr (inl refl)))))).1 f)
+    | inr f ↦ (0, 0, (parent_circuit, refl, refl), (one_net a (slot [] 0) h (pin_net 0 (inl refl))).1 f)
   ]),
 )
 

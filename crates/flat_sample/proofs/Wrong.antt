@@ -7,8 +7,8 @@ use Rattle.geo_base.specs.Rects.{IsRect}
 use Rattle.geo_base.specs.declared.shapes.Rect.{Rect}
 use Rattle.geo_base.specs.declared.shapes.Square.{Square}
 use Rattle.rect_sets.proofs.Single.{few_canonical}
-use Rattle.flat_layout.specs.Gates.{Ends, TwoGroups, Region, IsGoodGate, IsSourceFirst, IsTerminalNode}
-use Rattle.flat_layout.specs.GateTables.{GateEntry, IsGateRow, terminal_net}
+use Rattle.flat_layout.specs.Gates.{Sides, TwoGroups, Region, IsGoodGate, IsSourceFirst, IsTerminalNode}
+use Rattle.flat_layout.specs.GateTables.{GateEntry, IsGateRow, counted_device}
 use Rattle.flat_layout.specs.Layout.{IsReached}
 use Rattle.flat_layout.specs.Nets.{AreListed, IsItemLink, IsOf, Item, NetHolds, Own, run}
 use Rattle.flat_layout.specs.Plane.{IsSquareBefore}
@@ -23,7 +23,7 @@ use Rattle.flat_sample.specs.Sample.{child_rect, nets_of, parent, place, sample_
 use Rattle.flat_sample.specs.Transistors.{at, entry, gate_design, gate_on, gate_tables, gate_wiring, mirror_place, rule}
 use Rattle.plain_netlist.proofs.Links.{stays}
 use Rattle.plain_netlist.specs.Lists.{IsListed}
-use Rattle.plain_netlist.specs.Netlist.{Pole, Source, Drain}
+use Rattle.plain_netlist.specs.Devices.{Terminal, First, Second, IsAt}
 use Rattle.table_laws.proofs.Tabled.{one_own}
 
 child_reached : IsReached sample_design 0
@@ -90,18 +90,18 @@ source_square n q x y net e holds is =
     square_of n = at 0
 
 not_first : (row : IsGateRow gate_design gate_wiring gate_tables rule 0 (at 1) (gate_on 1 2 0 3)) → ⊥
-not_first row = by row.ends row.good row.first row.nets
+not_first row = by row.sides row.good row.first row.nets
   where
     not : IsSquareBefore (at 2) (at 0) → ⊥
     not (inl h) = omega (arith, ints)
     not (inr (e, h)) = omega (arith, ints)
 
-    by : (ends : Ends) → IsGoodGate gate_design gate_wiring rule 0 (at 1) ends 2 2 → IsSourceFirst gate_design gate_wiring rule 0 (at 1) ends
-        → ((pole : Pole) → (n : Node) × IsTerminalNode gate_design gate_wiring rule 0 (at 1) ends pole n × NetHolds gate_design gate_tables 0 (terminal_net pole (gate_on 1 2 0 3)) n) → ⊥
+    by : (sides : Sides) → IsGoodGate gate_design gate_wiring rule 0 (at 1) sides 2 2 → IsSourceFirst gate_design gate_wiring rule 0 (at 1) sides
+        → ((t : Terminal) (x : ℕ) → IsAt t (counted_device rule (gate_on 1 2 0 3)) x → (n : Node) × IsTerminalNode gate_design gate_wiring rule 0 (at 1) sides t n × NetHolds gate_design gate_tables 0 x n) → ⊥
     by Region good first nets = good
     by (TwoGroups e f) good (p, in_first, before) nets =
-        let (n, (q, in_source, x), holds) = nets Source in
-        let (m, (r, in_drain, y), held) = nets Drain in
+        let (n, (q, in_source, x), holds) = nets First 1 (0, (refl, refl)) in
+        let (m, (r, in_drain, y), held) = nets Second 0 (1, (refl, refl)) in
         let two : q ≡ at 2 = source_square n q 2 0 1 x holds refl in
         let zero_is : r ≡ at 0 = source_square m r 0 0 0 y held refl in
         let first : p ≡ at 2 = sym (group_is 0 0 e.outer p sides.child_gate in_first) ∙ group_is 0 0 e.outer q sides.child_gate in_source ∙ two in

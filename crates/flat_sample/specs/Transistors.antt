@@ -9,13 +9,15 @@ use Rattle.geo_base.specs.declared.shapes.Rect.{Rect}
 use Rattle.geo_base.specs.declared.shapes.Square.{Square}
 use Rattle.flat_layout.specs.Circuits.{CircuitParts}
 use Rattle.flat_layout.specs.Expanded.{CircuitTables}
-use Rattle.flat_layout.specs.Gates.{Rule, Mos}
+use Rattle.flat_layout.specs.Gates.{Rule}
 use Rattle.flat_layout.specs.GateTables.{GateEntry, GateRow, Good}
 use Rattle.flat_layout.specs.Layers.{Formula, Input, Empty, Binary}
 use Rattle.flat_layout.specs.Layout.{Place, Layer, Text, Cell, Design}
 use Rattle.flat_layout.specs.Nets.{Own, Child, Global, CellNets, Tables}
 use Rattle.flat_layout.specs.Pins.{CellPins}
 use Rattle.flat_layout.specs.Regions.{Wiring}
+use Rattle.plain_netlist.specs.declared.kinds.DeviceKind.TheVariants.{Mos4}
+use Rattle.plain_netlist.specs.Devices.{Both}
 use Rattle.plain_netlist.specs.Netlist.{Circuit, DeviceRow, Netlist}
 
 abbrev pub key_of : ℕ → LayerKey
@@ -134,7 +136,7 @@ nmos = 110 ∷ (109 ∷ (111 ∷ (115 ∷ [])))
 abbrev pub rule : Rule
 rule = record {
   class = nmos;
-  kind = Mos;
+  kind = Mos4;
   sd = sides;
   gate = crossings;
   well = Empty;
@@ -148,8 +150,13 @@ gate_rules = rule ∷ []
 
 -- a gate of one square between two sides, two edges wide and two long, over the cell's nets
 abbrev pub gate_on : ℕ → ℕ → ℕ → ℕ → GateRow
-gate_on source gate drain bulk =
-    record { twice_w = 2; twice_l = 2; source = source; gate = gate; drain = drain; bulk = bulk }
+gate_on source gate drain bulk = record {
+  kind = Mos4;
+  twice_w = 2;
+  twice_l = 2;
+  ends = Both source drain;
+  others = gate ∷ bulk ∷ [];
+}
 
 abbrev pub entry : GateRow → GateEntry
 entry row = record { at = record { rule = 0; square = at 1 }; verdict = Good row }
@@ -204,14 +211,11 @@ gate_circuits = record {
 -- a transistor of one square: one unit of 1,000 picometres wide and long, in femtometres
 abbrev pub row_on : ℕ → ℕ → ℕ → ℕ → DeviceRow
 row_on source gate drain bulk = record {
+  kind = Mos4;
   class = nmos;
-  length = 1000000;
-  width = 1000000;
-  source = source;
-  gate = gate;
-  drain =
-      drain;
-  bulk = bulk;
+  sizes = 1000000 ∷ 1000000 ∷ [];
+  ends = Both source drain;
+  others = gate ∷ bulk ∷ [];
 }
 
 -- "$1" to "$3", "D" and "VSS"

@@ -4,12 +4,13 @@ use Rattle.std.proofs.lemmas.Option.{none-some}
 use Rattle.geo_base.specs.declared.shapes.Rect.{Rect}
 use Rattle.geo_base.specs.declared.shapes.Square.{Square}
 use Rattle.rect_sets.specs.Rects.{covers}
-use Rattle.flat_layout.specs.Gates.{InGate, Rule, geometry, ground}
+use Rattle.flat_layout.specs.Gates.{InGate, Rule, geometry}
 use Rattle.flat_layout.specs.GateTables as gates
-use Rattle.flat_layout.specs.GateTables.{GateEntry, Verdict}
+use Rattle.flat_layout.specs.GateTables.{GateEntry, Verdict, counted_device}
 use Rattle.flat_layout.specs.Layout.{Design, IsReached}
 use Rattle.flat_layout.specs.Nets.{NetHolds, Tables}
 use Rattle.flat_layout.specs.Regions.{Node, Wiring}
+use Rattle.plain_netlist.proofs.Rows.{over_wider}
 use Rattle.cell_graph.specs.Linked.{IsSound, Linked, height_at, plain}
 use Rattle.cell_graph.proofs.Bridge.{heights}
 use Rattle.rule_layers.specs.Meaning.{device_rules, more_rule, mos_rules, wiring_of}
@@ -23,7 +24,7 @@ use Rattle.gate_shapes.specs.declared.shape.GateShape.{GateShape}
 use Rattle.gate_shapes.specs.declared.shape.GateShape.TheVariants.{Bad, Good}
 use Rattle.gate_phase.specs.Judged.{AreGatesOf, AreRuleGates, GoOn, IsGateOf}
 use Rattle.gate_phase.specs.Own.{AreOwnGates}
-use Rattle.gate_phase.specs.Rows.{AreEntriesOf, AreGatesTo, IsVerdictOf, end_node, gate_node, region_node}
+use Rattle.gate_phase.specs.Rows.{AreEntriesOf, AreGatesTo, IsVerdictOf, node_device}
 use Rattle.gate_phase.specs.Terminals.{IsOfRule, RuleGrounds, grounds_by}
 use Rattle.gate_phase.specs.declared.device.Device.{Device}
 use Rattle.gate_phase.specs.declared.own.OwnGate.{OwnGate}
@@ -37,18 +38,7 @@ entries_along : (d : Design) (w : Wiring) (s t : Tables) (u : Rule) (n cell : �
 entries_along d w s t u n cell own es holds h = record { count = h.count; at = h.at; verdicts = λ i x e a b. along x.least x.shape e.verdict (h.verdicts i x e a b) }
   where
     along : (q : Square) (shape : GateShape) (v : Verdict) → IsVerdictOf d w s u cell q shape v → IsVerdictOf d w t u cell q shape v
-    along q (Good f) v (row, e, k) = (
-      row,
-      e,
-      record {
-        wide = k.wide;
-        long = k.long;
-        source = holds row.source (end_node u.kind w u f.source) k.source;
-        drain = holds row.drain (end_node u.kind w u f.drain) k.drain;
-        gate = holds row.gate (gate_node u.kind w u q) k.gate;
-        bulk = holds row.bulk (region_node u.tb q (ground w u)) k.bulk;
-      },
-    )
+    along q (Good f) v (row, e, k) = (row, e, over_wider (NetHolds d s cell) (NetHolds d t cell) holds (counted_device u row) (node_device w u q f) k)
     along q (Bad c) v e = e
 
 module _ (d : Linked) (r : Rules) (s : Tables) (x : Device) (g : RuleGrounds) (n cell : ℕ) (u : Rule) (own : List OwnGate) (v : List Gate) (sound : IsSound d) (right : AreRightNets (plain d) (wiring_of r) s) (reached : IsReached (plain d) cell)

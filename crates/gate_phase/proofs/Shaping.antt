@@ -2,7 +2,7 @@
 use Rattle.std.proofs.Common.{◌≡◌, ◌↔◌, ℕ, ◌<◌, Bool, true, false, List, Option, Some, None, length, refl, sym, subst}
 use Rattle.geo_base.specs.declared.shapes.Rect.{Rect}
 use Rattle.geo_base.specs.declared.shapes.Square.{Square}
-use Rattle.flat_layout.specs.Gates.{Alone, Beside, Form, Geometry, InGate, IsGateOrRing, IsReadBy, IsSettled, Kind, Mos, Rule, form_of, gate_sheet, geometry, ground, sheets}
+use Rattle.flat_layout.specs.Gates.{Alone, Beside, Form, Geometry, InGate, IsGateOrRing, IsReadBy, IsSettled, Rule, form_of, gate_sheet, geometry, ground, sheets}
 use Rattle.flat_layout.specs.Gates as flat
 use Rattle.flat_layout.specs.Parts.{IsCloseTo, Sheets}
 use Rattle.flat_layout.specs.Layers.{Formula, InFlat, IsKept}
@@ -19,12 +19,12 @@ use Rattle.gate_shapes.specs.declared.shape.GateShape.TheVariants.{Good, Bad}
 use Rattle.gate_shapes.proofs.Groups.{around_self}
 use Rattle.gate_shapes.proofs.Looking.{look, shape}
 use Rattle.rule_text.specs.Rules.{Rules}
-use Rattle.gate_phase.specs.Devices.{AreKnownEnds, kind_seen}
+use Rattle.gate_phase.specs.Devices.{AreKnownEnds}
 use Rattle.gate_phase.specs.Indexes.{LayersOf}
 use Rattle.gate_phase.specs.Kept.{HasLocals}
 use Rattle.gate_phase.specs.Shape.{IsGatePart, IsGateSheet}
-use Rattle.gate_phase.specs.declared.device.Kind as code
-use Rattle.gate_phase.specs.declared.device.Kind.TheVariants.{Transistor, Resistor, Diode}
+use Rattle.plain_netlist.specs.declared.kinds.DeviceKind.{DeviceKind}
+use Rattle.plain_netlist.specs.declared.kinds.DeviceKind.TheVariants.{Mos4, ResistorWithBulk, Diode}
 use Rattle.gate_phase.proofs.Telling.{kept_flat}
 
 -- close to a settled gate the cell keeps exactly the flat squares of what the rule reads
@@ -44,26 +44,26 @@ exact_at d g cell s part set x settled is read met q i = (
 )
 
 -- what a gate must lie on
-pub gate_exact : (k : Kind) (d : Design) (g : Geometry) (cell : ℕ) (s : Square) (part close sheet : List Rect) (x : Formula) → IsGatePart d g cell s part close → IsReadBy g x → IsGateSheet k (IsKept d cell x) close part sheet
+pub gate_exact : (k : DeviceKind) (d : Design) (g : Geometry) (cell : ℕ) (s : Square) (part close sheet : List Rect) (x : Formula) → IsGatePart d g cell s part close → IsReadBy g x → IsGateSheet k (IsKept d cell x) close part sheet
     → (q : Square) → InGate d g cell s q → in_set sheet q ↔ gate_sheet k (InFlat d cell x) q
-gate_exact Mos d g cell s part close sheet x is read met q i = exact_near d g cell s part close sheet x is read met q (record { square = q; in_part = i; around = around_self q })
-gate_exact flat.Resistor d g cell s part close sheet x is read same q i = ((λ e. tt), (λ u. subst (λ (l : List Rect). in_set l q) (sym same) ((is.squares q).1 i)))
-gate_exact flat.Diode d g cell s part close sheet x is read same q i = ((λ e. tt), (λ u. subst (λ (l : List Rect). in_set l q) (sym same) ((is.squares q).1 i)))
+gate_exact Mos4 d g cell s part close sheet x is read met q i = exact_near d g cell s part close sheet x is read met q (record { square = q; in_part = i; around = around_self q })
+gate_exact ResistorWithBulk d g cell s part close sheet x is read same q i = ((λ e. tt), (λ u. subst (λ (l : List Rect). in_set l q) (sym same) ((is.squares q).1 i)))
+gate_exact Diode d g cell s part close sheet x is read same q i = ((λ e. tt), (λ u. subst (λ (l : List Rect). in_set l q) (sym same) ((is.squares q).1 i)))
 
 -- a device has groups beside its regions exactly where its kind has
-pub has_groups : (r : Rules) (k : code.Kind) (o : Option ℕ) (a : ℕ) → AreKnownEnds r k o → o ≡ Some a → (form_of (kind_seen k) ≡ Beside) × (a < length r.names)
-has_groups r Transistor None a h e = absurd h
-has_groups r Transistor (Some b) a h e = let same : b ≡ a = cc in (refl, subst (λ n. n < length r.names) same h)
-has_groups r Resistor None a h e = absurd h
-has_groups r Resistor (Some b) a h e = let same : b ≡ a = cc in (refl, subst (λ n. n < length r.names) same h)
+pub has_groups : (r : Rules) (k : DeviceKind) (o : Option ℕ) (a : ℕ) → AreKnownEnds r k o → o ≡ Some a → (form_of k ≡ Beside) × (a < length r.names)
+has_groups r Mos4 None a h e = absurd h
+has_groups r Mos4 (Some b) a h e = let same : b ≡ a = cc in (refl, subst (λ n. n < length r.names) same h)
+has_groups r ResistorWithBulk None a h e = absurd h
+has_groups r ResistorWithBulk (Some b) a h e = let same : b ≡ a = cc in (refl, subst (λ n. n < length r.names) same h)
 has_groups r Diode None a h e = absurd (let z : ⊥ = cc in z)
 has_groups r Diode (Some b) a h e = absurd h
 
-pub has_none : (r : Rules) (k : code.Kind) (o : Option ℕ) → AreKnownEnds r k o → o ≡ None → form_of (kind_seen k) ≡ Alone
-has_none r Transistor None h e = absurd h
-has_none r Transistor (Some b) h e = absurd (let z : ⊥ = cc in z)
-has_none r Resistor None h e = absurd h
-has_none r Resistor (Some b) h e = absurd (let z : ⊥ = cc in z)
+pub has_none : (r : Rules) (k : DeviceKind) (o : Option ℕ) → AreKnownEnds r k o → o ≡ None → form_of k ≡ Alone
+has_none r Mos4 None h e = absurd h
+has_none r Mos4 (Some b) h e = absurd (let z : ⊥ = cc in z)
+has_none r ResistorWithBulk None h e = absurd h
+has_none r ResistorWithBulk (Some b) h e = absurd (let z : ⊥ = cc in z)
 has_none r Diode None h e = refl
 has_none r Diode (Some b) h e = absurd h
 

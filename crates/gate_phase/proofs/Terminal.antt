@@ -1,5 +1,5 @@
 -- The terminals of a settled good gate are held by nets of its cell.
-use Rattle.std.proofs.Common.{◌≡◌, ℕ, Option, Some, None, sym, ap, subst, arith}
+use Rattle.std.proofs.Common.{◌≡◌, ℕ, Option, Some, None, slice_get, refl, sym, ap, subst, arith}
 use Rattle.cell_graph.proofs.Bridge.{heights}
 use Rattle.cell_graph.specs.Linked.{IsSound, Linked, cell_at, height_at, hull_of, plain}
 use Rattle.cell_graph.proofs.Bridge.{hull_sound}
@@ -17,7 +17,9 @@ use Rattle.gate_shapes.specs.declared.shape.GateShape.{GateShape}
 use Rattle.gate_shapes.specs.declared.shape.GateShape.TheVariants.{Bad, Good}
 use Rattle.net_link_laws.proofs.Held.{conductor}
 use Rattle.net_link_laws.specs.Laws.{AreNetsUnder}
-use Rattle.plain_netlist.specs.Netlist.{Bulk, Drain, Gate, Pole, Source}
+use Rattle.plain_netlist.specs.declared.kinds.DeviceKind.{DeviceKind}
+use Rattle.plain_netlist.specs.declared.kinds.DeviceKind.TheVariants.{Mos4, ResistorWithBulk, Diode}
+use Rattle.plain_netlist.specs.Devices.{First, HasEnds, Other, Second, Terminal}
 use Rattle.rule_layers.proofs.Wired.{known}
 use Rattle.rule_layers.specs.Meaning.{wiring_of}
 use Rattle.rule_text.specs.Rules.{Rules}
@@ -27,12 +29,8 @@ use Rattle.table_laws.proofs.Tabled.{reached_under}
 use Rattle.table_laws.proofs.Tabled as tabled
 use Rattle.gate_phase.specs.Judged.{IsHeldShape}
 use Rattle.gate_phase.specs.Own.{IsOwnGate}
-use Rattle.gate_phase.specs.Devices.{kind_seen}
-use Rattle.gate_phase.specs.Rows.{end_node, gate_node, region_node}
-use Rattle.gate_phase.specs.Terminals.{AreHeld, HasOneEnd, IsHeldEnd, IsHeldGate, IsHeldRegion, IsHeldSquare, IsOfRule, RuleGrounds, grounds_by}
+use Rattle.gate_phase.specs.Terminals.{AreHeld, AreHeldEnds, IsHeldLeast, IsHeldRegion, IsHeldSquare, IsOfRule, RuleGrounds, end_nodes, grounds_by, other_nodes, region_node}
 use Rattle.gate_phase.specs.declared.device.Device.{Device}
-use Rattle.gate_phase.specs.declared.device.Kind.{Kind}
-use Rattle.gate_phase.specs.declared.device.Kind.TheVariants.{Transistor, Resistor, Diode}
 use Rattle.gate_phase.proofs.RowsOf.{HasNodes, nodes_of}
 use Rattle.gate_phase.specs.declared.own.OwnGate.{OwnGate}
 use Rattle.gate_phase.proofs.Holding.{grown_unit}
@@ -62,33 +60,42 @@ module _ (d : Linked) (r : Rules) (t : Tables) (sound : IsSound d) (ruled : rule
   region_held a c s None same is node = at_held a c s same (subst (λ (p : Option ℕ). IsNode w (kept (plain d) w cell) (region_node a s p)) is node)
   region_held a c s (Some g) same is node = known r a g is
 
-  end_held : (k : Kind) (u : Rule) (c : ℕ) (s : Square) (o : Option ℕ) → u.ts ≡ c → anode_ground w u ≡ o → IsNode w (kept (plain d) w cell) (end_node (kind_seen k) w u s) → IsHeldEnd k (plain d) w t cell c s o
-  end_held Transistor u c s o same is node = at_held u.ts c s same node
-  end_held Resistor u c s o same is node = at_held u.ts c s same node
-  end_held Diode u c s o same is node = region_held u.ts c s o same is node
+  ends_held : (k : DeviceKind) (u : Rule) (c : ℕ) (f : GateForm) → u.ts ≡ c → ((a b : Node) → HasEnds a b (end_nodes k u.ts f) → IsNode w (kept (plain d) w cell) a × IsNode w (kept (plain d) w cell) b) → AreHeldEnds k (plain d) w t cell c f
+  ends_held Mos4 u c f same h = let p = h (At u.ts f.source) (At u.ts f.drain) (refl, refl) in (at_held u.ts c f.source same p.0, at_held u.ts c f.drain same p.1)
+  ends_held ResistorWithBulk u c f same h = let p = h (At u.ts f.source) (At u.ts f.drain) (refl, refl) in (at_held u.ts c f.source same p.0, at_held u.ts c f.drain same p.1)
+  ends_held Diode u c f same h = tt
 
-  gate_held : (k : Kind) (u : Rule) (c : ℕ) (s : Square) → u.tg ≡ c → IsNode w (kept (plain d) w cell) (gate_node (kind_seen k) w u s) → IsHeldGate k (plain d) w t cell c s
-  gate_held Transistor u c s same node = at_held u.tg c s same node
-  gate_held Resistor u c s same node = tt
-  gate_held Diode u c s same node = tt
+  abbrev AreOthersNodes : DeviceKind → Rule → Square → Type 0
+  AreOthersNodes k u s = (place : ℕ) (m : Node) → slice_get (other_nodes k u.ts u.tg u.tb (grounds_by w u) s) place ≡ Some m → IsNode w (kept (plain d) w cell) m
+
+  least_held : (k : DeviceKind) (u : Rule) (x : Device) (g : RuleGrounds) (s : Square) → IsOfRule u x → grounds_by w u ≡ g → AreOthersNodes k u s → IsHeldLeast (plain d) w t x k cell g s
+  least_held Mos4 u x g s of is h = at_held u.tg x.tg s of.tg (h 0 (At u.tg s) refl)
+  least_held ResistorWithBulk u x g s of is h = tt
+  least_held Diode u x g s of is h = region_held u.ts x.ts s g.ends of.ts (ap (λ (b : RuleGrounds). b.ends) is) (h 0 (region_node u.ts s (anode_ground w u)) refl)
+
+  bulk_node : (k : DeviceKind) (u : Rule) (s : Square) → AreOthersNodes k u s → IsNode w (kept (plain d) w cell) (region_node u.tb s (ground w u))
+  bulk_node Mos4 u s h = h 1 (region_node u.tb s (ground w u)) refl
+  bulk_node ResistorWithBulk u s h = h 0 (region_node u.tb s (ground w u)) refl
+  bulk_node Diode u s h = h 1 (region_node u.tb s (ground w u)) refl
 
   module _ (u : Rule) (x : Device) (of : IsOfRule u x) (y : OwnGate) (own : IsOwnGate (plain d) w u cell y) (f : GateForm) (n : HasNodes u.kind (plain d) w u cell y.least f) where
-    node : (pole : Pole) (m : Node) → IsTerminalNode (plain d) w u cell y.least n.ends pole m → IsNode w (kept (plain d) w cell) m
-    node pole m is =
-        (terminals (plain d) w u cell y.least n.ends f.twice_w f.twice_l pole m m reached own.listed.settled n.good
-        (λ g e. let c = grounds (plain d) w u cell y.least n.ends pole g (subst (λ z. IsTerminalNode (plain d) w u cell y.least n.ends pole z) (sym e) is) in known r c.0 g c.1) is is).0
+    node : (place : Terminal) (m : Node) → IsTerminalNode (plain d) w u cell y.least n.sides place m → IsNode w (kept (plain d) w cell) m
+    node place m is =
+        (terminals (plain d) w u cell y.least n.sides f.twice_w f.twice_l place m m reached own.listed.settled n.good
+        (λ g e. let c = grounds (plain d) w u cell y.least n.sides place g (subst (λ z. IsTerminalNode (plain d) w u cell y.least n.sides place z) (sym e) is) in known r c.0 g c.1) is is).0
+
+    others : AreOthersNodes u.kind u y.least
+    others place m e = node (Other place) m (n.others place m e)
+
+    ends : (a b : Node) → HasEnds a b (end_nodes u.kind u.ts f) → IsNode w (kept (plain d) w cell) a × IsNode w (kept (plain d) w cell) b
+    ends a b h = let p = n.ends a b h in (node First a p.0, node Second b p.1)
 
     held_form : (g : RuleGrounds) → grounds_by w u ≡ g → AreHeld (plain d) w t x cell g y.least f
-    held_form g is =
-        let ends : anode_ground w u ≡ g.ends = ap (λ (b : RuleGrounds). b.ends) is in
-        let bulk : ground w u ≡ g.bulk = ap (λ (b : RuleGrounds). b.bulk) is in
-        let k = of.kind in record {
-          source = end_held x.kind u x.ts f.source g.ends of.ts ends (subst (λ q. IsNode w (kept (plain d) w cell) (end_node q w u f.source)) k (node Source (end_node u.kind w u f.source) n.source));
-          drain = end_held x.kind u x.ts f.drain g.ends of.ts ends (subst (λ q. IsNode w (kept (plain d) w cell) (end_node q w u f.drain)) k (node Drain (end_node u.kind w u f.drain) n.drain));
-          gate = gate_held x.kind u x.tg y.least of.tg (subst (λ q. IsNode w (kept (plain d) w cell) (gate_node q w u y.least)) k (node Gate (gate_node u.kind w u y.least) n.gate));
-          bulk = region_held u.tb x.tb y.least g.bulk of.tb bulk (node Bulk (region_node u.tb y.least (ground w u)) n.bulk);
-          one = subst (λ q. HasOneEnd q f) k n.one;
-        }
+    held_form g is = record {
+      ends = subst (λ k. AreHeldEnds k (plain d) w t cell x.ts f) of.kind (ends_held u.kind u x.ts f of.ts ends);
+      own = subst (λ k. IsHeldLeast (plain d) w t x k cell g y.least) of.kind (least_held u.kind u x g y.least of is others);
+      bulk = region_held u.tb x.tb y.least g.bulk of.tb (ap (λ (b : RuleGrounds). b.bulk) is) (bulk_node u.kind u y.least others);
+    }
 
   by_shape : (u : Rule) (x : Device) (g : RuleGrounds) → IsOfRule u x → grounds_by w u ≡ g → (y : OwnGate) → IsOwnGate (plain d) w u cell y → (shape : GateShape) → IsShapeBy (form_of u.kind) (sheets (plain d) w u cell) (InGate (plain d) (geometry w u) cell y.least) shape
       → IsHeldShape (plain d) w t x cell g y.least shape

@@ -4,6 +4,8 @@ use Rattle.geo_base.specs.declared.layer.Op.TheVariants.{And}
 use Rattle.flat_layout.specs.Gates as flat
 use Rattle.flat_layout.specs.Layers.{Formula, Empty, Binary}
 use Rattle.flat_layout.specs.Regions.{formula}
+use Rattle.plain_netlist.specs.declared.kinds.DeviceKind.{DeviceKind}
+use Rattle.plain_netlist.specs.declared.kinds.DeviceKind.TheVariants.{Mos4, ResistorWithBulk, Diode}
 use Rattle.rule_text.specs.Rules.{Rules}
 use Rattle.rule_text.specs.declared.rules.MosRule.{MosRule}
 use Rattle.rule_text.specs.declared.rules.MoreRule.{MoreRule}
@@ -12,15 +14,13 @@ use Rattle.rule_layers.specs.Formulas.{formulas}
 use Rattle.rule_layers.specs.Meaning.{wiring_of}
 use Rattle.rule_layers.specs.Reads.{IsRead}
 use Rattle.gate_phase.specs.declared.device.Device.{Device}
-use Rattle.gate_phase.specs.declared.device.Kind.{Kind}
-use Rattle.gate_phase.specs.declared.device.Kind.TheVariants.{Transistor, Resistor, Diode}
 use Rattle.gate_phase.specs.declared.device.Region.{Region}
 use Rattle.gate_phase.specs.declared.device.Region.TheVariants.{One, Both}
 
 -- a transistor's rule by its names
 abbrev pub of_mos : MosRule → Device
 of_mos m = record {
-  kind = Transistor;
+  kind = Mos4;
   region = One m.g;
   ends = Some m.sd;
   well = Some m.w;
@@ -29,11 +29,11 @@ of_mos m = record {
   tb = m.tb;
 }
 
--- and a further one: a resistor's gate is its bulk; a diode has its anode at the ends, its cathode
--- at the bulk
+-- and a further one, which has no gate: there its bulk stands; a diode has its anode at the ends,
+-- its cathode at the bulk
 abbrev pub of_more : MoreRule → Device
 of_more (more.Resistor class n c w ta tw) = record {
-  kind = Resistor;
+  kind = ResistorWithBulk;
   region = One n;
   ends = Some c;
   well = Some w;
@@ -54,11 +54,6 @@ of_more (more.Diode class p n ta tc) = record {
 -- all device rules by their names, in the order of their numbers
 abbrev pub devices_of : Rules → List Device
 devices_of r = map of_mos r.devices ++ map of_more r.more
-
-abbrev pub kind_seen : Kind → flat.Kind
-kind_seen Transistor = flat.Mos
-kind_seen Resistor = flat.Resistor
-kind_seen Diode = flat.Diode
 
 -- the layer whose parts are the rule's regions
 abbrev pub region_of : List Formula → Region → Formula
@@ -86,7 +81,7 @@ device_reach reaches x = max (layer_reach reaches x.ends) (max (region_reach rea
 
 -- these are the names of the rule
 pub record IsDevice (trees : List Formula) (x : Device) (u : flat.Rule) : Type 0 where
-  pub kind : u.kind ≡ kind_seen x.kind
+  pub kind : u.kind ≡ x.kind
   pub region : u.gate ≡ region_of trees x.region
   pub ends : u.sd ≡ layer_in trees x.ends
   pub well : u.well ≡ layer_in trees x.well
@@ -101,11 +96,11 @@ IsKnownRegion r (Both a b) = (a < length r.names) × (b < length r.names)
     × IsRead r.names r.devices r.more a × IsRead r.names r.devices r.more b
 
 -- a diode alone has no groups beside its regions
-abbrev pub AreKnownEnds : Rules → Kind → Option ℕ → Type 0
-AreKnownEnds r Transistor None = ⊥
-AreKnownEnds r Transistor (Some a) = a < length r.names
-AreKnownEnds r Resistor None = ⊥
-AreKnownEnds r Resistor (Some a) = a < length r.names
+abbrev pub AreKnownEnds : Rules → DeviceKind → Option ℕ → Type 0
+AreKnownEnds r Mos4 None = ⊥
+AreKnownEnds r Mos4 (Some a) = a < length r.names
+AreKnownEnds r ResistorWithBulk None = ⊥
+AreKnownEnds r ResistorWithBulk (Some a) = a < length r.names
 AreKnownEnds r Diode None = Unit {0}
 AreKnownEnds r Diode (Some a) = ⊥
 

@@ -1,46 +1,41 @@
--- The row of a good gate of a cell's own, from the nets of four nodes.
-use Rattle.std.specs.Prelude.{◌≡◌, ◌⊎◌, ◌↔◌, ◌<◌, ◌+◌, ◌++◌, ℕ, List, [], Option, Some, None, length}
+-- The row of a good gate of a cell's own, from the nets of its terminals' nodes.
+use Rattle.std.specs.Prelude.{◌≡◌, ◌⊎◌, ◌↔◌, ◌<◌, ◌+◌, ◌++◌, ℕ, List, [], ◌∷◌, Option, Some}
+use Rattle.std.specs.Prelude.{None, length}
 use Rattle.std.specs.Prelude.{slice_get}
 use Rattle.geo_base.specs.declared.shapes.Square.{Square}
 use Rattle.flat_layout.specs.Gates.{InGate, IsGateBelow, IsLeast, IsListedGate, IsSettled, Rule}
-use Rattle.flat_layout.specs.Gates.{Kind, Mos, Diode, anode_ground, form_of, geometry, ground, sheets}
+use Rattle.flat_layout.specs.Gates.{form_of, geometry, sheets}
 use Rattle.flat_layout.specs.GateTables.{AreGates, GateEntry, GateRow, IsGateBefore, IsGateEntry}
-use Rattle.flat_layout.specs.GateTables.{IsGateRow, Verdict}
+use Rattle.flat_layout.specs.GateTables.{IsGateRow, Verdict, counted_device}
 use Rattle.flat_layout.specs.GateTables as verdict
 use Rattle.flat_layout.specs.Layout.{Design}
 use Rattle.flat_layout.specs.Nets.{NetHolds, Tables}
 use Rattle.flat_layout.specs.Regions.{At, Ground, Node, Wiring}
+use Rattle.plain_netlist.specs.Devices.{IsRowOver, Row}
 use Rattle.plain_netlist.specs.Lists.{AreRising, IsListed}
 use Rattle.gate_shapes.specs.Shapes.{IsShapeBy}
 use Rattle.gate_shapes.specs.declared.shape.GateForm.{GateForm}
 use Rattle.gate_shapes.specs.declared.shape.GateShape.{GateShape}
 use Rattle.gate_shapes.specs.declared.shape.GateShape.TheVariants.{Bad, Good}
 use Rattle.gate_phase.specs.Own.{AreOwnGates, IsOwnGate}
+use Rattle.gate_phase.specs.Terminals.{end_nodes, grounds_by, other_nodes}
 use Rattle.gate_phase.specs.declared.own.OwnGate.{OwnGate}
 
--- the node of a region on a conductor: the conductor's global, or the region's least square on it
-abbrev pub region_node : ℕ → Square → Option ℕ → Node
-region_node c least None = At c least
-region_node c least (Some g) = Ground g
+-- the gate as a device over the nodes of its terminals, its sizes as they are counted
+abbrev pub node_device : Wiring → Rule → Square → GateForm → Row Node
+node_device w u least f = record {
+  kind = u.kind;
+  class = u.class;
+  sizes = f.twice_l ∷ f.twice_w ∷ [];
+  ends = end_nodes u.kind u.ts f;
+  others = other_nodes u.kind u.ts u.tg u.tb (grounds_by w u) least;
+}
 
--- those of an end, by the square of its group, and of the gate
-abbrev pub end_node : Kind → Wiring → Rule → Square → Node
-end_node Diode w u s = region_node u.ts s (anode_ground w u)
-end_node kind w u s = At u.ts s
-
-abbrev pub gate_node : Kind → Wiring → Rule → Square → Node
-gate_node Mos w u s = At u.tg s
-gate_node kind w u s = region_node u.tb s (ground w u)
-
--- these nets hold the nodes of the four terminals
-pub record HoldTerminals (d : Design) (w : Wiring) (t : Tables) (u : Rule) (cell : ℕ)
-    (least : Square) (f : GateForm) (row : GateRow) : Type 0 where
-  pub wide : row.twice_w ≡ f.twice_w
-  pub long : row.twice_l ≡ f.twice_l
-  pub source : NetHolds d t cell row.source (end_node u.kind w u f.source)
-  pub drain : NetHolds d t cell row.drain (end_node u.kind w u f.drain)
-  pub gate : NetHolds d t cell row.gate (gate_node u.kind w u least)
-  pub bulk : NetHolds d t cell row.bulk (region_node u.tb least (ground w u))
+-- these nets hold the nodes
+abbrev pub HoldTerminals : Design → Wiring → Tables → Rule → ℕ → Square → GateForm → GateRow
+    → Type 0
+HoldTerminals d w t u cell least f row =
+    IsRowOver (NetHolds d t cell) (counted_device u row) (node_device w u least f)
 
 -- then they are the row of the gate
 abbrev pub RowLaw : Type 0

@@ -2,12 +2,14 @@
 use Rattle.std.specs.Prelude.{◌≡◌, ◌↔◌, ℕ, ◌<◌, List, length}
 use Rattle.geo_base.specs.declared.shapes.Rect.{Rect}
 use Rattle.geo_base.specs.declared.shapes.Square.{Square}
-use Rattle.flat_layout.specs.Gates.{Geometry, InGate, IsSettled, Kind, Mos, Resistor}
-use Rattle.flat_layout.specs.Gates.{Diode, Rule, geometry, sheets}
+use Rattle.flat_layout.specs.Gates.{Geometry, InGate, IsSettled, Rule, geometry}
+use Rattle.flat_layout.specs.Gates.{sheets}
 use Rattle.flat_layout.specs.Layers.{Formula, IsKept}
 use Rattle.flat_layout.specs.Layout.{Design, IsReached}
 use Rattle.flat_layout.specs.Parts.{IsCloseTo, Sheets}
 use Rattle.flat_layout.specs.Regions.{Wiring}
+use Rattle.plain_netlist.specs.declared.kinds.DeviceKind.{DeviceKind}
+use Rattle.plain_netlist.specs.declared.kinds.DeviceKind.TheVariants.{Mos4, ResistorWithBulk, Diode}
 use Rattle.cell_graph.specs.Linked.{Linked, plain}
 use Rattle.rule_text.specs.Rules.{Rules}
 use Rattle.rule_text.specs.Seen.{rules_seen}
@@ -28,9 +30,9 @@ pub record IsGatePart (d : Design) (g : Geometry) (cell : ℕ) (s : Square)
 
 -- what the gate's squares must lie on: of a transistor what the cell keeps of the gate's conductor,
 -- of another device its part itself
-abbrev pub IsGateSheet : Kind → (Square → Type 0) → List Rect → List Rect → List Rect → Type 0
-IsGateSheet Mos keeps windows part sheet = AreMet keeps windows sheet
-IsGateSheet Resistor keeps windows part sheet = sheet ≡ part
+abbrev pub IsGateSheet : DeviceKind → (Square → Type 0) → List Rect → List Rect → List Rect → Type 0
+IsGateSheet Mos4 keeps windows part sheet = AreMet keeps windows sheet
+IsGateSheet ResistorWithBulk keeps windows part sheet = sheet ≡ part
 IsGateSheet Diode keeps windows part sheet = sheet ≡ part
 
 -- a reached cell with right layers
@@ -58,7 +60,7 @@ IsKeptAt site name windows set = (x : Formula) → HasLocals (layout_at site) si
     → AreMet (IsKept (layout_at site) site.cell x) windows set
 
 -- the set is what the gates of such devices must lie on
-abbrev pub IsSheetAt : Site → Kind → ℕ → (windows part set : List Rect) → Type 0
+abbrev pub IsSheetAt : Site → DeviceKind → ℕ → (windows part set : List Rect) → Type 0
 IsSheetAt site kind name windows part set = (x : Formula)
     → HasLocals (layout_at site) site.layers.now name x
     → IsGateSheet kind (IsKept (layout_at site) site.cell x) windows part set

@@ -6,16 +6,9 @@ ghost use Rattle.rule_layers.specs.Meaning.{device_rules};
 ghost use Rattle.gate_phase.specs.Devices.{devices_of, of_more, of_mos};
 
 use list_base::number;
+use plain_netlist::DeviceKind;
 use rule_text::{MoreRule, MosRule, RuleSet};
 use std::alloc::AllocError;
-
-/// What a device rule finds.
-#[derive(Clone, Copy, Debug, PartialEq, Eq)]
-pub enum Kind {
-    Transistor,
-    Resistor,
-    Diode,
-}
 
 /// The layer whose parts are the regions of a device rule: a name's, or the squares of both names.
 #[derive(Clone, Copy, Debug, PartialEq, Eq)]
@@ -25,12 +18,12 @@ pub enum Region {
 }
 
 /// A device rule by the numbers of its names: the regions' layer, the layer of the groups beside
-/// them, the well, and the conductors of the ends, the gate and the bulk. A resistor's gate is its
-/// bulk; a diode has neither groups nor a well, its anode is at the ends and its cathode at the
-/// bulk.
+/// them, the well, and the conductors of the ends, the gate and the bulk. Only a transistor has a
+/// gate: else its bulk stands there. A diode has neither groups nor a well, its anode is at the
+/// ends and its cathode at the bulk.
 #[derive(Clone, Copy, Debug, PartialEq, Eq)]
 pub struct Device {
-    pub kind: Kind,
+    pub kind: DeviceKind,
     pub region: Region,
     pub ends: Option<u32>,
     pub well: Option<u32>,
@@ -43,7 +36,7 @@ fn transistor(rule: &MosRule) -> Device
     ensures { result ≡ of_mos rule.now }
 {
     Device {
-        kind: Kind::Transistor,
+        kind: DeviceKind::Mos4,
         region: Region::One(rule.g),
         ends: Some(rule.sd),
         well: Some(rule.w),
@@ -65,7 +58,7 @@ fn further(rule: &MoreRule) -> Device
             tw,
             ..
         } => Device {
-            kind: Kind::Resistor,
+            kind: DeviceKind::ResistorWithBulk,
             region: Region::One(*r),
             ends: Some(*c),
             well: Some(*w),
@@ -74,7 +67,7 @@ fn further(rule: &MoreRule) -> Device
             tb: *tw,
         },
         MoreRule::Diode { p, n, ta, tc, .. } => Device {
-            kind: Kind::Diode,
+            kind: DeviceKind::Diode,
             region: Region::Both(*p, *n),
             ends: None,
             well: None,

@@ -39,12 +39,10 @@ fn state_of<C: Cells>(
         GateShape::Good(form) => {
             let nets = terminal_nets(alloc, cells, cell, rule, grounds, globals, least, &form)?;
             Ok(GateState::Good {
+                kind: rule.kind,
                 twice_w: form.twice_w,
                 twice_l: form.twice_l,
-                source: nets.source,
-                drain: nets.drain,
-                gate: nets.gate,
-                bulk: nets.bulk,
+                nets,
             })
         }
     }

@@ -32,7 +32,7 @@ mod work;
 
 pub use both::BothLayer;
 pub use bulks::{Grounds, device_grounds};
-pub use device::{Device, Kind, Region, device_at, device_count};
+pub use device::{Device, Region, device_at, device_count};
 pub use entries::entry_laws;
 pub use indexes::IndexedLayers;
 pub use kept::{kept_in, kept_rects};
@@ -41,5 +41,5 @@ pub use list::{cell_gates, push_all};
 pub use nets::{net_at, net_of_global};
 pub use own::{OwnGate, own_gates};
 pub use phase::GatePhase;
-pub use terminals::{TerminalNets, terminal_nets};
+pub use terminals::terminal_nets;
 pub use work::DeviceWork;

@@ -13,17 +13,18 @@ ghost use Rattle.gate_shapes.specs.Sets.{in_set};
 ghost use Rattle.gate_shapes.specs.Shapes.{IsShape, IsShapeAlone, IsShapeBy};
 ghost use Rattle.flat_layout.specs.Layers.{Formula};
 ghost use Rattle.rule_layers.specs.Formulas.{formulas};
-ghost use Rattle.gate_phase.specs.Devices.{IsDevice, IsKnownDevice, kind_seen};
+ghost use Rattle.gate_phase.specs.Devices.{IsDevice, IsKnownDevice};
 ghost use Rattle.gate_phase.specs.Kept.{HasLocals};
 ghost use Rattle.gate_phase.specs.Shape.{IsGateAt, IsKeptAt, IsPartAt, IsReadySite, IsSheetAt};
 ghost use Rattle.gate_phase.specs.Shape.{layout_at, sheets_at, wiring_at};
 
-use crate::device::{Device, Kind};
+use crate::device::Device;
 use crate::indexes::IndexedLayers;
 use crate::kept::kept_in;
 use cell_graph::Design;
 use gate_shapes::{Around, GateShape, Sheets, area_shape, shape_of};
 use geo_base::Rect;
+use plain_netlist::DeviceKind;
 use rect_sets::RectSet;
 use rule_text::RuleSet;
 use std::alloc::{AllocError, Global};
@@ -96,7 +97,7 @@ fn judged_shape(
     requires windows { All (IsRectWithin (2 ^ 39)) close.now }
     requires groups { IsKeptAt site.now ends close.now groups.now }
     requires on_ends { IsKeptAt site.now device.now.ts close.now on_ends.now }
-    requires sheet { IsSheetAt site.now (kind_seen device.now.kind) device.now.tg close.now part.now
+    requires sheet { IsSheetAt site.now device.now.kind device.now.tg close.now part.now
         on_gate.now }
     ensures { IfOk result (λ x. (u : Rule) (s : Square)
         → IsDevice (formulas site.now.rules.now.names.items) device.now u
@@ -134,7 +135,7 @@ fn beside_shape(
     requires ends { ends < length site.now.rules.now.names.items }
     requires near { IsNearSet part.now }
     requires windows { All (IsRectWithin (2 ^ 39)) close.now }
-    requires sheet { IsSheetAt site.now (kind_seen device.now.kind) device.now.tg close.now part.now
+    requires sheet { IsSheetAt site.now device.now.kind device.now.tg close.now part.now
         on_gate.now }
     ensures { IfOk result (λ x. (u : Rule) (s : Square)
         → IsDevice (formulas site.now.rules.now.names.items) device.now u
@@ -184,7 +185,7 @@ fn grouped_shape(
         → IsShape (sheets_at site.now u) (IsGateAt site.now u s) x) }
 {
     match device.kind {
-        Kind::Transistor => {
+        DeviceKind::Mos4 => {
             let on_gate = kept_in(
                 alloc,
                 site.design,
@@ -195,7 +196,9 @@ fn grouped_shape(
             )?;
             beside_shape(alloc, site, device, ends, &on_gate, part, close)
         }
-        Kind::Resistor | Kind::Diode => beside_shape(alloc, site, device, ends, part, part, close),
+        DeviceKind::ResistorWithBulk | DeviceKind::Diode => {
+            beside_shape(alloc, site, device, ends, part, part, close)
+        }
     }
 }
 

@@ -1,30 +1,20 @@
 //! The nets of a good device's terminals.
 ghost use Rattle.std.specs.Prelude.{◌≡◌, ◌<◌, ℕ, length, IfOk};
-ghost use Rattle.flat_layout.specs.Gates.{Rule};
 ghost use Rattle.flat_layout.specs.Nets.{NetHolds};
 ghost use Rattle.flat_layout.specs.Regions.{At};
 ghost use Rattle.net_link_laws.specs.Laws.{AreNetsUnder};
 ghost use Rattle.gate_phase.specs.Own.{IsUnitNear};
-ghost use Rattle.gate_phase.specs.Rows.{HoldTerminals, region_node};
-ghost use Rattle.gate_phase.specs.Terminals.{AreHeld, IsHeldRegion, IsOfRule, grounds_by};
-ghost use Rattle.gate_phase.specs.Terminals.{grounds_seen, row_of};
+ghost use Rattle.gate_phase.specs.Terminals.{AreHeld, HoldNodes, IsHeldRegion, grounds_seen};
+ghost use Rattle.gate_phase.specs.Terminals.{region_node};
 
 use crate::bulks::Grounds;
-use crate::device::{Device, Kind};
+use crate::device::Device;
 use crate::nets::{net_at, net_of_global};
 use gate_shapes::GateForm;
 use geo_base::Square;
 use net_walk::Cells;
+use plain_netlist::DeviceKind;
 use std::alloc::{AllocError, Global};
-
-/// The nets of a good device's terminals.
-#[derive(Clone, Copy, Debug, PartialEq, Eq)]
-pub struct TerminalNets {
-    pub source: u32,
-    pub drain: u32,
-    pub gate: u32,
-    pub bulk: u32,
-}
 
 // The net of a square that some net holds.
 fn held_net<C: Cells>(
@@ -74,9 +64,10 @@ fn region_net<C: Cells>(
     }
 }
 
-/// The nets of a good device's terminals. A transistor's: of the least squares of its groups, of
-/// its least square, and of its region on the bulk's conductor. A resistor's gate is its bulk. A
-/// diode's source and drain are its region on the anode, its gate and bulk on the cathode.
+/// The nets of a good device's terminals, in the order of a netlist's `DeviceRow`, and 0 behind
+/// them. Of a device between groups its ends are on the nets of their least squares. A transistor's
+/// gate is on that of its least square; a bulk, an anode or a cathode on that of its conductor's
+/// global, or else of the region's least square.
 pub fn terminal_nets<C: Cells>(
     alloc: Global,
     cells: &C,
@@ -86,47 +77,31 @@ pub fn terminal_nets<C: Cells>(
     globals: u32,
     least: Square,
     form: &GateForm,
-) -> Result<TerminalNets, AllocError>
+) -> Result<[u32; 4], AllocError>
     requires globals { globals ≡ length (C.wiring cells.now).globals }
     requires nets { AreNetsUnder (C.design cells.now) (C.wiring cells.now) (C.tables cells.now)
         cell }
     requires held { AreHeld (C.design cells.now) (C.wiring cells.now) (C.tables cells.now)
         device.now cell (grounds_seen grounds) least form.now }
-    ensures { IfOk result (λ n. (u : Rule) → IsOfRule u device.now
-        → grounds_by (C.wiring cells.now) u ≡ grounds_seen grounds
-        → HoldTerminals (C.design cells.now) (C.wiring cells.now) (C.tables cells.now) u cell least
-        form.now (row_of form.now n)) }
+    ensures { IfOk result (HoldNodes (C.design cells.now) (C.tables cells.now) device.now cell
+        (grounds_seen grounds) least form.now) }
 {
     let bulk = region_net(alloc, cells, cell, device.tb, grounds.bulk, globals, least)?;
     match device.kind {
-        Kind::Transistor => Ok(TerminalNets {
-            source: held_net(alloc, cells, cell, device.ts, form.source)?,
-            drain: held_net(alloc, cells, cell, device.ts, form.drain)?,
-            gate: held_net(alloc, cells, cell, device.tg, least)?,
-            bulk,
-        }),
-        Kind::Resistor => Ok(TerminalNets {
-            source: held_net(alloc, cells, cell, device.ts, form.source)?,
-            drain: held_net(alloc, cells, cell, device.ts, form.drain)?,
-            gate: bulk,
-            bulk,
-        }),
-        Kind::Diode => {
-            let anode = region_net(
-                alloc,
-                cells,
-                cell,
-                device.ts,
-                grounds.ends,
-                globals,
-                form.source,
-            )?;
-            Ok(TerminalNets {
-                source: anode,
-                drain: anode,
-                gate: bulk,
-                bulk,
-            })
+        DeviceKind::Mos4 => {
+            let drain = held_net(alloc, cells, cell, device.ts, form.drain)?;
+            let gate = held_net(alloc, cells, cell, device.tg, least)?;
+            let source = held_net(alloc, cells, cell, device.ts, form.source)?;
+            Ok([drain, gate, source, bulk])
+        }
+        DeviceKind::ResistorWithBulk => {
+            let second = held_net(alloc, cells, cell, device.ts, form.drain)?;
+            let first = held_net(alloc, cells, cell, device.ts, form.source)?;
+            Ok([second, bulk, first, 0])
+        }
+        DeviceKind::Diode => {
+            let anode = region_net(alloc, cells, cell, device.ts, grounds.ends, globals, least)?;
+            Ok([anode, bulk, 0, 0])
         }
     }
 }

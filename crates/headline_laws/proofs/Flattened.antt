@@ -1,15 +1,20 @@
 -- The expanded netlist and the flat layout.
-use Rattle.std.proofs.Common.{◌≡◌, ◌⊎◌, ◌↔◌, inl, inr, ℕ, ◌<◌, List, [], ◌∷◌, Some, length, slice_get, refl, sym, ◌∙◌, ap, subst}
+use Rattle.std.proofs.Common.{◌≡◌, ◌⊎◌, ◌↔◌, inl, inr, ℕ, zero, suc, ◌<◌, List, [], ◌∷◌, Some, length, slice_get, refl, sym, ◌∙◌, ap, subst}
 use Rattle.geo_base.specs.Motions.{moved_square}
 use Rattle.geo_base.specs.declared.shapes.Square.{Square}
-use Rattle.plain_netlist.specs.Flats.{AreRowsAlike, Corresponds, expanded, Flat, Row, row_at}
+use Rattle.plain_netlist.specs.declared.kinds.DeviceKind.{DeviceKind}
+use Rattle.plain_netlist.specs.declared.kinds.DeviceKind.TheVariants.{Mos4, ResistorWithBulk, Diode}
+use Rattle.plain_netlist.specs.Devices.{AreRowsAlike, Both, Ends, First, HasEnds, IsAt, NoEnds, Other, Row, Second, Terminal, exchanged, have_ends, terminal_nets}
+use Rattle.plain_netlist.specs.Kinds.{has_ends, other_count}
+use Rattle.plain_netlist.specs.Flats.{Corresponds, expanded, Flat, row_at}
 use Rattle.plain_netlist.specs.Lists.{IsListed}
-use Rattle.plain_netlist.specs.Netlist.{Pole, Source, Gate, Drain, Bulk, DeviceRow, on, Netlist, Slot, slot, InOneNet, HasDevice, IsOnPin}
+use Rattle.plain_netlist.specs.Netlist.{DeviceRow, Netlist, Slot, slot, InOneNet, HasDevice, IsOnPin}
 use Rattle.plain_netlist.proofs.Links.{stays, both, back}
 use Rattle.plain_netlist.proofs.Members.{position}
+use Rattle.plain_netlist.proofs.Rows.{at_joined, at_terminal, ends_by, over_alike, row_over_self, rows_over}
 use Rattle.flat_layout.specs.Circuits.{IsCircuitCell}
 use Rattle.flat_layout.specs.Expanded.{CircuitTables, IsGateOfDevice, IsDeviceOf, AreTablesRight, IsFlatNetlist, ShowsNode}
-use Rattle.flat_layout.specs.Gates.{Rule, geometry, length_of, width_of, Edge, Ends, TwoGroups, Region, Form, Beside, Alone, Kind, Mos, Resistor, Diode, form_of, sheets, IsStep, InGate, InSide, InOneGroup, IsRegionNode, IsGroupNode, IsGateNode, IsGoodGate, IsTerminalNode}
+use Rattle.flat_layout.specs.Gates.{Rule, geometry, sizes_of, Edge, Sides, TwoGroups, Region, Form, Beside, Alone, form_of, sheets, IsStep, InGate, InSide, InOneGroup, IsRegionNode, IsGroupNode, IsOtherNode, IsGoodGate, IsTerminalNode}
 use Rattle.flat_layout.specs.Parts.{IsGoodForm, IsGoodPart}
 use Rattle.flat_layout.specs.GateTables.{GateSquare, GoodGate}
 use Rattle.flat_layout.specs.Layout.{Place, Design, IsPlaced, IsReached}
@@ -26,6 +31,7 @@ use Rattle.flat_laws.proofs.Paths.{same_place}
 use Rattle.flat_laws.proofs.Planned.{planned}
 use Rattle.flat_laws.proofs.Squares.{edge_back}
 use Rattle.flat_laws.proofs.Terminals.{terminals}
+use Rattle.headline_laws.proofs.Chosen.{chosen, chosen_over}
 use Rattle.headline_laws.specs.FlatNetlist.{AreOneGate, FlatCorrespondsLaw, flat_netlist, IsFlatDevice, IsFlatGateOf, IsFlatRegionOf, TopCircuitLaw}
 
 slot_one : (a b : Slot) → a.path ≡ b.path → a.net ≡ b.net → a ≡ b
@@ -89,40 +95,53 @@ module _ (d : Design) (w : Wiring) (u : Rule) (cell : ℕ) (s q : Square) (way :
   region_here c n (inl h) = inl h
   region_here c n (inr h) = inr (h.0, (h.1.0, (in_same d w u cell s q way h.1.0).1 h.1.1, h.1.2))
 
-  gate_here : (k : Kind) (n : Node) → IsGateNode k d w u cell s n → IsGateNode k d w u cell q n
-  gate_here Mos n h = (h.0, (in_same d w u cell s q way h.0).1 h.1, h.2)
-  gate_here Resistor n h = region_here u.tb n h
-  gate_here Diode n h = region_here u.tb n h
+  other_here : (k : DeviceKind) (place : ℕ) (n : Node) → IsOtherNode k d w u cell s place n → IsOtherNode k d w u cell q place n
+  other_here Mos4 zero n h = (h.0, (in_same d w u cell s q way h.0).1 h.1, h.2)
+  other_here Mos4 (suc zero) n h = region_here u.tb n h
+  other_here Mos4 (suc (suc j)) n h = h
+  other_here ResistorWithBulk zero n h = region_here u.tb n h
+  other_here ResistorWithBulk (suc j) n h = h
+  other_here Diode zero n h = region_here u.ts n h
+  other_here Diode (suc zero) n h = region_here u.tb n h
+  other_here Diode (suc (suc j)) n h = h
 
-  pole_here : (ends : Ends) (pole : Pole) (n : Node) → IsTerminalNode d w u cell s ends pole n → IsTerminalNode d w u cell q ends pole n
-  pole_here (TwoGroups e f) Source n h = group_here e n h
-  pole_here (TwoGroups e f) Drain n h = group_here f n h
-  pole_here Region Source n h = region_here u.ts n h
-  pole_here Region Drain n h = region_here u.ts n h
-  pole_here ends Gate n h = gate_here u.kind n h
-  pole_here ends Bulk n h = region_here u.tb n h
+  terminal_here : (sides : Sides) (t : Terminal) (n : Node) → IsTerminalNode d w u cell s sides t n → IsTerminalNode d w u cell q sides t n
+  terminal_here (TwoGroups e f) First n h = group_here e n h
+  terminal_here (TwoGroups e f) Second n h = group_here f n h
+  terminal_here Region First n h = h
+  terminal_here Region Second n h = h
+  terminal_here sides (Other place) n h = other_here u.kind place n h
 
--- and by the ends named twice: in one order, or in the other
+-- and by the sides named twice: in one order, or in the other
 module _ (d : Design) (w : Wiring) (u : Rule) (cell : ℕ) (q : Square) where
-  abbrev Carries : Ends → Pole → Ends → Pole → Type 0
-  Carries a pole b last = (n : Node) → IsTerminalNode d w u cell q a pole n → IsTerminalNode d w u cell q b last n
+  abbrev Carries : Sides → Terminal → Sides → Terminal → Type 0
+  Carries a t b last = (n : Node) → IsTerminalNode d w u cell q a t n → IsTerminalNode d w u cell q b last n
 
-  abbrev AreExchanged : Ends → Ends → Type 0
-  AreExchanged a b = (Carries a Source b Source × Carries a Drain b Drain) ⊎ (Carries a Source b Drain × Carries a Drain b Source)
+  abbrev AreExchanged : Sides → Sides → Type 0
+  AreExchanged a b = (Carries a First b First × Carries a Second b Second) ⊎ (Carries a First b Second × Carries a Second b First)
 
   group_node : (a e : Edge) → R d w u cell q a.outer e.outer → (n : Node) → IsGroupNode d w u cell q a n → IsGroupNode d w u cell q e n
   group_node a e x n h = (h.0, r_both d w u cell q e.outer a.outer h.0 (r_back d w u cell q a.outer e.outer x) h.1, h.2)
 
-  exchanged : (form : Form) (a b : Ends) (m n k l : ℕ) → IsGoodForm form (sheets d w u cell) (InGate d (geometry w u) cell q) a m n → IsGoodForm form (sheets d w u cell) (InGate d (geometry w u) cell q) b k l → AreExchanged a b
-  exchanged Beside (TwoGroups a b) (TwoGroups e f) m n k l h g = elim (orders d w u cell q a b e f m n k l h g) [
+  exchanged_sides : (form : Form) (a b : Sides) (m n k l : ℕ) → IsGoodForm form (sheets d w u cell) (InGate d (geometry w u) cell q) a m n → IsGoodForm form (sheets d w u cell) (InGate d (geometry w u) cell q) b k l → AreExchanged a b
+  exchanged_sides Beside (TwoGroups a b) (TwoGroups e f) m n k l h g = elim (orders d w u cell q a b e f m n k l h g) [
     | inl c ↦ inl (group_node a e c.0, group_node b f c.1)
     | inr c ↦ inr (group_node a f c.0, group_node b e c.1)
   ]
-  exchanged Beside (TwoGroups a b) Region m n k l h g = absurd g
-  exchanged Beside Region b m n k l h g = absurd h
-  exchanged Alone (TwoGroups a b) other m n k l h g = absurd h
-  exchanged Alone Region (TwoGroups e f) m n k l h g = absurd g
-  exchanged Alone Region Region m n k l h g = inl ((λ n i. i), (λ n i. i))
+  exchanged_sides Beside (TwoGroups a b) Region m n k l h g = absurd g
+  exchanged_sides Beside Region b m n k l h g = absurd h
+  exchanged_sides Alone (TwoGroups a b) other m n k l h g = absurd h
+  exchanged_sides Alone Region (TwoGroups e f) m n k l h g = absurd g
+  exchanged_sides Alone Region Region m n k l h g = inl ((λ n i. i), (λ n i. i))
+
+-- ends that are exchanged
+have_exchanged : {N : Type 0} (e : Ends N) → have_ends e ≡ have_ends (exchanged e)
+have_exchanged NoEnds = refl
+have_exchanged (Both a b) = refl
+
+has_exchanged : {N : Type 0} (e : Ends N) (a b : N) → HasEnds a b (exchanged e) → HasEnds b a e
+has_exchanged NoEnds a b h = h
+has_exchanged (Both c d) a b h = (h.1, h.0)
 
 module _ (d : Design) (w : Wiring) (t : Tables) (g : CircuitTables) (nl : Netlist) (rules : List Rule) (unit : ℕ) (height : ℕ → ℕ) (x : AreTablesRight d w t g nl rules unit height) (n : ℕ) (num : IsCircuitCell g.cells n d.top) where
   abbrev F : Flat Slot Slot
@@ -143,6 +162,17 @@ module _ (d : Design) (w : Wiring) (t : Tables) (g : CircuitTables) (nl : Netlis
   region_on : (a b c : Node) → InOneRegion w (flat d w d.top) a b → InOneRegion w (flat d w d.top) b c → InOneRegion w (flat d w d.top) a c
   region_on a b c h k = both link a b c h k
 
+  -- a net of a path's end, and a node of the flat region in which it is seen
+  abbrev OnRegion : List ℕ → ℕ → Node → Type 0
+  OnRegion path a m = IsFlatRegionOf d w t g nl n (slot path a) m
+
+  on_region : (path : List ℕ) (i : ℕ) (row : DeviceRow) (a : ℕ) (m l : Node) → HasDevice nl n path i row → IsListed a (terminal_nets row) → ShowsNode d t g d.top path a m → InOneRegion w (flat d w d.top) m l → OnRegion path a l
+  on_region path i row a m l has on sees way = (record { device = i; row = row; has = has; on = on }, (m, sees, way))
+
+  -- at the path's end, and from the top
+  seen_row : (path : List ℕ) (row : DeviceRow) (s : Row Node) → AreRowsAlike (OnRegion path) row s → AreRowsAlike (IsFlatRegionOf d w t g nl n) (row_at path row) s
+  seen_row path row s a = subst (λ z. AreRowsAlike (IsFlatRegionOf d w t g nl n) (row_at path row) z) (row_over_self s) (rows_over (OnRegion path) (IsFlatRegionOf d w t g nl n) (slot path) (λ m. m) (λ b m h. h) row s a)
+
   there : (a : Slot) (r : Row Slot) → F.has_device a r
       → (o : GateSquare) × (s : Row Node) × IsFlatDevice d w rules unit o s × IsFlatGateOf d w g nl n rules a o × AreRowsAlike (IsFlatRegionOf d w t g nl n) r s
   there a r (row, has, e) =
@@ -151,73 +181,91 @@ module _ (d : Design) (w : Wiring) (t : Tables) (g : CircuitTables) (nl : Netlis
       let s = h.2 in
       let v = h.5 in
       let o : GateSquare = record { rule = h.0; square = s } in
-      let at : Row Node = record { class = row.class; length = row.length; width = row.width; net = λ pole. (v.nodes pole).0 } in
       let self : (z : Rule) → slice_get rules h.0 ≡ Some z → InGate d (geometry w z) d.top s s = λ z rule. let same : u ≡ z = let f = h.3 in cc in subst (λ (y : Rule). InGate d (geometry w y) d.top s s) same (gate_self d (geometry w u) d.top s v.settled.is) in
-      let net : (pole : Pole) → IsFlatRegionOf d w t g nl n (slot a.path (on pole row)) (v.nodes pole).0 = λ pole.
-      (record { device = a.net; row = row; pole = pole; has = has; on = refl }, ((v.nodes pole).0, (v.nodes pole).2, stays link (v.nodes pole).0 (v.nodes pole).0 refl)) in
-      let rows : AreRowsAlike (IsFlatRegionOf d w t g nl n) (row_at a.path row) at = record { class = refl; length = refl; width = refl; gate = net Gate; bulk = net Bulk; channel = inl (net Source, net Drain) } in
-      let device : IsFlatDevice d w rules unit o at = record {
+      let P : Terminal → ℕ → Node → Type 0 = λ place b m. IsTerminalNode d w u d.top s v.sides place m × ShowsNode d t g d.top a.path b m in
+      let at = chosen P row v.formed (λ place b on. let m = v.nodes place b on in (m.0, (m.1, m.2))) in
+      let device : IsFlatDevice d w rules unit o at.0 = record {
         rule = u;
         is = h.3;
-        ends = v.ends;
+        sides = v.sides;
         twice_w = v.twice_w;
         twice_l = v.twice_l;
         good = v.good;
-        class = v.class;
-        width = v.width;
-        length = v.length;
-        nodes = λ pole. (v.nodes pole).1;
-      } in (
+        kind = at.1.kind ∙ v.kind;
+        class = at.1.class ∙ v.class;
+        sizes = at.1.sizes ∙ v.sizes;
+        formed = at.1.formed;
+        nodes = λ place m on. (at.1.back place m on).2.0;
+      } in
+      let over = chosen_over P (OnRegion a.path) row at.0 v.formed at.1 (λ place b m on p. on_region a.path a.net row b m m has (at_terminal place row b on) p.1 (stays link m m refl)) in (
         o,
-        at,
+        at.0,
         device,
         ((row, has), (o, h.4, (refl, self))),
-        subst (λ (y : Row Slot). AreRowsAlike (IsFlatRegionOf d w t g nl n) y at) (sym e) rows,
+        subst (λ (y : Row Slot). AreRowsAlike (IsFlatRegionOf d w t g nl n) y at.0) (sym e) (seen_row a.path row at.0 (over_alike (OnRegion a.path) row at.0 over)),
       )
 
   -- a shown global is known
-  known : (path : List ℕ) (row : DeviceRow) (pole : Pole) (k : ℕ) → ShowsNode d t g d.top path (on pole row) (Ground k) → k < length w.globals
-  known path row pole k p =
-      let at = shows d w t height g nl rules unit x.tables (planned d w t g nl rules unit height x) path d.top (on pole row) (Ground k) is_top p in
+  known : (path : List ℕ) (a k : ℕ) → ShowsNode d t g d.top path a (Ground k) → k < length w.globals
+  known path a k p =
+      let at = shows d w t height g nl rules unit x.tables (planned d w t g nl rules unit height x) path d.top a (Ground k) is_top p in
       (regions d w t height x.tables d.top is_top).sound at.0 (Ground k) at.2
 
   -- the nodes of one terminal stand in one flat region
-  one_pole : (u : Rule) (path : List ℕ) (row : DeviceRow) (s : Square) → IsDeviceOf d w t g u unit d.top path row s → (ends : Ends) (k l : ℕ) → IsGoodGate d w u d.top s ends k l
-      → (pole last : Pole) (a b : Node) → ShowsNode d t g d.top path (on pole row) a → IsTerminalNode d w u d.top s ends last a → IsTerminalNode d w u d.top s ends last b → InOneRegion w (flat d w d.top) a b
-  one_pole u path row s v ends k l form pole last a b shown h j =
-      (region_flat d w height x.tables.lower a b).0 (terminals d w u d.top s ends k l last a b is_top v.settled form (λ j is. known path row pole j (subst (λ y. ShowsNode d t g d.top path (on pole row) y) (sym is) shown)) h j).1
+  one_terminal : (u : Rule) (path : List ℕ) (row : DeviceRow) (s : Square) → IsDeviceOf d w t g u unit d.top path row s → (sides : Sides) (k l : ℕ) → IsGoodGate d w u d.top s sides k l
+      → (last : Terminal) (i : ℕ) (a b : Node) → ShowsNode d t g d.top path i a → IsTerminalNode d w u d.top s sides last a → IsTerminalNode d w u d.top s sides last b → InOneRegion w (flat d w d.top) a b
+  one_terminal u path row s v sides k l form last i a b shown h j =
+      (region_flat d w height x.tables.lower a b).0 (terminals d w u d.top s sides k l last a b is_top v.settled form (λ j is. known path i j (subst (λ y. ShowsNode d t g d.top path i y) (sym is) shown)) h j).1
 
   -- a device of the gate has the flat device's row
   rows_back : (o : GateSquare) (s : Row Node) (y : IsFlatDevice d w rules unit o s) (path : List ℕ) (i : ℕ) (row : DeviceRow) (q : Square) → HasDevice nl n path i row → InGate d (geometry w y.rule) d.top o.square q
       → IsDeviceOf d w t g y.rule unit d.top path row q → AreRowsAlike (IsFlatRegionOf d w t g nl n) (row_at path row) s
-  rows_back o s y path i row q has way v =
-      let u = y.rule in
-      let here = good_same d w u d.top o.square q way y.ends y.twice_w y.twice_l y.good in
-      let sizes = one_sizes d w u d.top q v.ends y.ends v.twice_w v.twice_l y.twice_w y.twice_l v.good here in
-      let shown : (pole last : Pole) → IsTerminalNode d w u d.top q y.ends last (v.nodes pole).0 → IsFlatRegionOf d w t g nl n (slot path (on pole row)) (s.net last) = λ pole last is. (
-        record { device = i; row = row; pole = pole; has = has; on = refl },
-        (
-          (v.nodes pole).0,
-          (v.nodes pole).2,
-          one_pole u path row q v y.ends y.twice_w y.twice_l here pole last (v.nodes pole).0 (s.net last) (v.nodes pole).2 is (pole_here d w u d.top o.square q way y.ends last (s.net last) (y.nodes last)),
-        ),
-      ) in
-      record {
-        class = v.class ∙ sym y.class;
-        length = v.length ∙ (ap (length_of u unit) sizes.1 ∙ sym y.length);
-        width = v.width ∙ (ap (width_of u unit) sizes.0 ∙ sym y.width);
-        gate = shown Gate Gate (v.nodes Gate).1;
-        bulk = shown Bulk Bulk (v.nodes Bulk).1;
-        channel = elim (exchanged d w u d.top q (form_of u.kind) v.ends y.ends v.twice_w v.twice_l y.twice_w y.twice_l v.good here) [
-          | inl c ↦ inl (shown Source Source (c.0 (v.nodes Source).0 (v.nodes Source).1), shown Drain Drain (c.1 (v.nodes Drain).0 (v.nodes Drain).1))
-          | inr c ↦ inr (shown Source Drain (c.0 (v.nodes Source).0 (v.nodes Source).1), shown Drain Source (c.1 (v.nodes Drain).0 (v.nodes Drain).1))
-        ];
-      }
+  rows_back o s y path i row q has way v = seen_row path row s (record {
+    kind = same_kinds;
+    class = v.class ∙ sym y.class;
+    sizes = v.sizes ∙ ap (λ l. sizes_of u unit v.twice_w l) sizes.1 ∙ ap (λ k. sizes_of u unit k y.twice_l) sizes.0 ∙ sym y.sizes;
+    ends = elim (exchanged_sides d w u d.top q (form_of u.kind) v.sides y.sides v.twice_w v.twice_l y.twice_w y.twice_l v.good here) [
+      | inl c ↦ inl (ends_by (OnRegion path) row.ends s.ends same_ends (λ a b m l at there. (
+        shown First First a m (b, at) (l, there) c.0,
+        shown Second Second b l (a, at) (m, there) c.1,
+      )))
+      | inr c ↦ inr (ends_by (OnRegion path) row.ends (exchanged s.ends) (same_ends ∙ have_exchanged s.ends) (λ a b m l at there. (
+        shown First Second a m (b, at) (l, has_exchanged s.ends m l there) c.0,
+        shown Second First b l (a, at) (m, has_exchanged s.ends m l there) c.1,
+      )))
+    ];
+    others = at_joined (OnRegion path) row.others s.others (v.formed.others ∙ ap other_count same_kinds ∙ sym y.formed.others) (λ k a m at there. shown (Other k) (Other k) a m at there (λ z is. same_other k z is));
+  })
+    where
+      u : Rule
+      u = y.rule
+
+      same_kinds : row.kind ≡ s.kind
+      same_kinds = v.kind ∙ sym y.kind
+
+      same_ends : have_ends row.ends ≡ have_ends s.ends
+      same_ends = v.formed.ends ∙ ap has_ends same_kinds ∙ sym y.formed.ends
+
+      here : IsGoodGate d w u d.top q y.sides y.twice_w y.twice_l
+      here = good_same d w u d.top o.square q way y.sides y.twice_w y.twice_l y.good
+
+      sizes : (v.twice_w ≡ y.twice_w) × (v.twice_l ≡ y.twice_l)
+      sizes = one_sizes d w u d.top q v.sides y.sides v.twice_w v.twice_l y.twice_w y.twice_l v.good here
+
+      -- other terminals say nothing of sides
+      same_other : (k : ℕ) (z : Node) → IsTerminalNode d w u d.top q v.sides (Other k) z → IsTerminalNode d w u d.top q y.sides (Other k) z
+      same_other k z is = is
+
+      shown : (first last : Terminal) (a : ℕ) (m : Node) → IsAt first row a → IsAt last s m → Carries d w u d.top q v.sides first y.sides last → OnRegion path a m
+      shown first last a m at there carries =
+          let node = v.nodes first a at in
+          let mine = terminal_here d w u d.top o.square q way y.sides last m (y.nodes last m there) in
+          on_region path i row a node.0 m has (at_terminal first row a at) node.2 (one_terminal u path row q v y.sides y.twice_w y.twice_l here last a node.0 m node.2 (carries node.0 node.1) mine)
 
   back_from : (o : GateSquare) (s : Row Node) → IsFlatDevice d w rules unit o s
       → (a : Slot) × (r : Row Slot) × F.has_device a r × IsFlatGateOf d w g nl n rules a o × AreRowsAlike (IsFlatRegionOf d w t g nl n) r s
   back_from o s y =
-      by (is_flat.found o.rule y.rule o.square y.ends y.twice_w y.twice_l y.is (good_in d w y.rule d.top o.square y.ends y.twice_w y.twice_l y.good) y.good)
+      by (is_flat.found o.rule y.rule o.square y.sides y.twice_w y.twice_l y.is (good_in d w y.rule d.top o.square y.sides y.twice_w y.twice_l y.good) y.good)
     where
       by : (path : List ℕ) × (i : ℕ) × (row : DeviceRow) × (q : Square) × HasDevice nl n path i row × IsGateOfDevice d g d.top path i o.rule q × InGate d (geometry w y.rule) d.top o.square q
           → (a : Slot) × (r : Row Slot) × F.has_device a r × IsFlatGateOf d w g nl n rules a o × AreRowsAlike (IsFlatRegionOf d w t g nl n) r s

@@ -1,3 +1,4 @@
+pub mod Chosen
 pub mod Flattened
 pub mod Whole
 pub mod Merged

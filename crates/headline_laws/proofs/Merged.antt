@@ -16,29 +16,20 @@ use Rattle.merge_laws.proofs.Flats.{merged_same}
 use Rattle.merge_laws.specs.Grouped.{merged_netlist, IsMadeOf}
 use Rattle.merge_laws.specs.Merge.{merged}
 use Rattle.plain_netlist.proofs.Alike.{reversed, through}
-use Rattle.plain_netlist.specs.Flats.{Row, Flat, AreRowsAlike, Corresponds, expanded, Reversed, Through}
+use Rattle.plain_netlist.proofs.Rows.{rows_wider}
+use Rattle.plain_netlist.specs.Flats.{Flat, Corresponds, expanded, Reversed, Through}
 use Rattle.plain_netlist.specs.Netlist.{Netlist, Slot}
 
 -- pairs of nets that are the same pairs, said otherwise
 nets_as : {D N E M : Type 0} (F : Flat D N) (G : Flat E M) (device : D → E → Type 0) (net to : N → M → Type 0) → ((a : N) (x : M) → net a x → to a x) → ((a : N) (x : M) → to a x → net a x)
     → Corresponds F G device net → Corresponds F G device to
 nets_as F G device net to f b h = record {
-  there = λ x r k. let y = h.there x r k in (y.0, y.1, y.2, y.3, rows f r y.1 y.4);
-  back = λ y s k. let x = h.back y s k in (x.0, x.1, x.2, x.3, rows f x.1 s x.4);
+  there = λ x r k. let y = h.there x r k in (y.0, y.1, y.2, y.3, rows_wider net to f r y.1 y.4);
+  back = λ y s k. let x = h.back y s k in (x.0, x.1, x.2, x.3, rows_wider net to f x.1 s x.4);
   devices = h.devices;
   nets = λ a c x y k l. h.nets a c x y (b a x k) (b c y l);
   pins = λ a x k. h.pins a x (b a x k);
 }
-  where
-    rows : {N M : Type 0} {net to : N → M → Type 0} → ((a : N) (x : M) → net a x → to a x) → (r : Row N) (s : Row M) → AreRowsAlike net r s → AreRowsAlike to r s
-    rows f r s a = record {
-      class = a.class;
-      length = a.length;
-      width = a.width;
-      gate = f _ _ a.gate;
-      bulk = f _ _ a.bulk;
-      channel = elim a.channel [ inl c ↦ inl (f _ _ c.0, f _ _ c.1) | inr c ↦ inr (f _ _ c.0, f _ _ c.1) ];
-    }
 
 module _ (d : Design) (w : Wiring) (t : Tables) (g : CircuitTables) (layout : Netlist) (rules : List Rule) (unit : ℕ) (level : ℕ → ℕ) (right : AreTablesRight d w t g layout rules unit level) (top : ℕ) (is : IsCircuitCell g.cells top d.top) (schematic : Netlist) (right_top : ℕ) where
   -- what the merged circuits expand to corresponds, and so does the flat layout with the flattened schematic, both merged

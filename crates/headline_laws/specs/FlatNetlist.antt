@@ -3,31 +3,33 @@
 use Rattle.std.specs.Prelude.{◌≡◌, ℕ, List, Some, slice_get}
 use Rattle.flat_layout.specs.Circuits.{IsCircuitCell}
 use Rattle.flat_layout.specs.Expanded.{AreTablesRight, CircuitTables, IsGateOfDevice, ShowsNode}
-use Rattle.flat_layout.specs.Gates.{Ends, Rule, geometry, width_of, length_of, InGate, IsGoodGate}
+use Rattle.flat_layout.specs.Gates.{Sides, Rule, geometry, sizes_of, InGate, IsGoodGate}
 use Rattle.flat_layout.specs.Gates.{IsTerminalNode}
 use Rattle.flat_layout.specs.GateTables.{GateSquare}
 use Rattle.flat_layout.specs.Layout.{Design}
 use Rattle.flat_layout.specs.Nets.{Tables}
 use Rattle.flat_layout.specs.Pins.{IsMarked}
 use Rattle.flat_layout.specs.Regions.{Wiring, Node, InOneRegion, flat}
-use Rattle.plain_netlist.specs.Flats.{Corresponds, expanded, Flat, Row}
-use Rattle.plain_netlist.specs.Netlist.{DeviceRow, HasDevice, IsTerminal, Netlist, Pole, Slot}
+use Rattle.plain_netlist.specs.Devices.{Row, Terminal, IsAt, IsFormed}
+use Rattle.plain_netlist.specs.Flats.{Corresponds, expanded, Flat}
+use Rattle.plain_netlist.specs.Netlist.{DeviceRow, HasDevice, IsTerminal, Netlist, Slot}
 
--- the device of a good gate of the flat top, a region of a device rule of any kind: its rule's
--- class, its sizes, and for each terminal a node of it
+-- the device of a good gate of the flat top, a region of a device rule of any kind: its rule's kind
+-- and class, its sizes, and each terminal of the kind on a node of it
 pub record IsFlatDevice (d : Design) (w : Wiring) (rules : List Rule) (unit : ℕ) (a : GateSquare)
     (row : Row Node) : Type 0 where
   pub rule : Rule
   pub is : slice_get rules a.rule ≡ Some rule
-  pub ends : Ends
+  pub sides : Sides
   pub twice_w : ℕ
   pub twice_l : ℕ
-  pub good : IsGoodGate d w rule d.top a.square ends twice_w twice_l
+  pub good : IsGoodGate d w rule d.top a.square sides twice_w twice_l
+  pub kind : row.kind ≡ rule.kind
   pub class : row.class ≡ rule.class
-  pub width : row.width ≡ width_of rule unit twice_w
-  pub length : row.length ≡ length_of rule unit twice_l
-  pub nodes : (pole : Pole)
-      → IsTerminalNode d w rule d.top a.square ends pole (row.net pole)
+  pub sizes : row.sizes ≡ sizes_of rule unit twice_w twice_l
+  pub formed : IsFormed row
+  pub nodes : (terminal : Terminal) (n : Node) → IsAt terminal row n
+      → IsTerminalNode d w rule d.top a.square sides terminal n
 
 -- two squares of one gate of the flat top, for one rule
 abbrev pub AreOneGate : Design → Wiring → List Rule → GateSquare → GateSquare → Type 0

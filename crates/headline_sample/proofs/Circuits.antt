@@ -1,5 +1,5 @@
 -- Both netlists are good, in normal form, and their own aligned netlists.
-use Rattle.std.proofs.Common.{◌≡◌, ℕ, zero, suc, ◌<◌, [], length, Some, slice_get, refl, arith}
+use Rattle.std.proofs.Common.{◌≡◌, inl, inr, ℕ, zero, suc, ◌<◌, [], length, Some, slice_get, refl, arith}
 use Rattle.std.proofs.lemmas.Option.{none-some}
 use Rattle.align_laws.specs.Cut.{OnDevice}
 use Rattle.flat_sample.proofs.Whole.{right}
@@ -9,7 +9,7 @@ use Rattle.headline_sample.proofs.Kept.{circuit_at, IsStill}
 use Rattle.headline_sample.specs.Matched.{part, schematic, whole}
 use Rattle.pair_samples.proofs.Sound.{one_call, two_pins}
 use Rattle.plain_netlist.proofs.Numbered.{normal_nets, numbered}
-use Rattle.plain_netlist.specs.Netlist.{CallRow, Circuit, IsCircuit, Source, Gate, Drain, Bulk}
+use Rattle.plain_netlist.specs.Netlist.{CallRow, Circuit, IsCircuit}
 use Rattle.plain_netlist.specs.Normal.{appearances, IsNormalCircuit, IsNormalNetlist}
 use Rattle.plain_netlist.specs.Sound.{AreCallsFitting, IsGood}
 use Rattle.table_laws.proofs.Sound.{extracted_good}
@@ -34,8 +34,8 @@ layout_still = record {
   second_cut = refl;
   first_count = refl;
   second_count = refl;
-  first_on = on_four (OnDevice gate_netlist 0) (0, _, Drain, (_, refl, refl), refl) (0, _, Bulk, (_, refl, refl), refl) (0, _, Gate, (_, refl, refl), refl) (0, _, Source, (_, refl, refl), refl);
-  second_on = on_four (OnDevice gate_netlist 1) (0, _, Drain, (_, refl, refl), refl) (0, _, Bulk, (_, refl, refl), refl) (0, _, Gate, (_, refl, refl), refl) (0, _, Source, (_, refl, refl), refl);
+  first_on = on_four (OnDevice gate_netlist 0) (0, _, (_, refl, refl), inl refl) (0, _, (_, refl, refl), inr (inr (inr (inl refl)))) (0, _, (_, refl, refl), inr (inl refl)) (0, _, (_, refl, refl), inr (inr (inl refl)));
+  second_on = on_four (OnDevice gate_netlist 1) (0, _, (_, refl, refl), inl refl) (0, _, (_, refl, refl), inr (inr (inr (inl refl)))) (0, _, (_, refl, refl), inr (inl refl)) (0, _, (_, refl, refl), inr (inr (inl refl)));
   normal = (extracted_good gate_design gate_wiring gate_tables gate_circuits gate_netlist gate_rules 1000 sample_level right).1;
   good = layout_good;
 }
@@ -74,8 +74,8 @@ schematic_still = record {
   second_cut = refl;
   first_count = refl;
   second_count = refl;
-  first_on = on_four (OnDevice schematic 0) (0, _, Bulk, (_, refl, refl), refl) (0, _, Source, (_, refl, refl), refl) (0, _, Drain, (_, refl, refl), refl) (0, _, Gate, (_, refl, refl), refl);
-  second_on = on_four (OnDevice schematic 1) (0, _, Drain, (_, refl, refl), refl) (0, _, Bulk, (_, refl, refl), refl) (0, _, Gate, (_, refl, refl), refl) (0, _, Source, (_, refl, refl), refl);
+  first_on = on_four (OnDevice schematic 0) (0, _, (_, refl, refl), inr (inr (inr (inl refl)))) (0, _, (_, refl, refl), inr (inr (inl refl))) (0, _, (_, refl, refl), inl refl) (0, _, (_, refl, refl), inr (inl refl));
+  second_on = on_four (OnDevice schematic 1) (0, _, (_, refl, refl), inl refl) (0, _, (_, refl, refl), inr (inr (inr (inl refl)))) (0, _, (_, refl, refl), inr (inl refl)) (0, _, (_, refl, refl), inr (inr (inl refl)));
   normal = normal;
   good = good;
 }

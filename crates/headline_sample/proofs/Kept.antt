@@ -70,7 +70,7 @@ module _ (c d : Circuit) where
     held_back : (k : ℕ) → ltb k 2 ≡ true → (n : ℕ) → OnDevice nl k n ⊎ OnHeldPin nl (as_it_is c d) k n → ltb n 4 ≡ true
     held_back k kept n on =
         let has : HasNet nl k n = elim on [
-          | inl (j, row, pole, device, net) ↦ subst (λ (m : ℕ). HasNet nl k m) net (h.good.within.devices k j row pole device)
+          | inl (j, row, device, net) ↦ h.good.within.devices k j n row device net
           | inr (e, row, p, inner, call, too, net, pin, held) ↦ h.good.within.calls k e p n row call net
         ] in
         let low : n < length (given_of nl k).nets = subst (λ (y : Circuit). n < length y.nets) (one_circuit nl k has.0 (given_of nl k) has.1 (there k kept)) has.2 in

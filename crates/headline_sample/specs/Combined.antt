@@ -10,19 +10,19 @@ use Rattle.headline_laws.specs.FlatNetlist.{flat_netlist, IsFlatGateOf, IsFlatRe
 use Rattle.headline_sample.specs.Matched.{as_it_is, pairings, part, schematic, whole}
 use Rattle.merge_laws.specs.Grouped.{IsMadeOf, merged_netlist}
 use Rattle.merge_laws.specs.Merge.{merged}
+use Rattle.plain_netlist.specs.declared.kinds.DeviceKind.TheVariants.{Mos4}
+use Rattle.plain_netlist.specs.Devices.{Both}
 use Rattle.plain_netlist.specs.Flats.{Corresponds, expanded, Reversed, Through}
 use Rattle.plain_netlist.specs.Netlist.{Circuit, DeviceRow, Netlist}
 
 -- a transistor of half the width
 abbrev pub finger : ℕ → ℕ → ℕ → ℕ → DeviceRow
 finger source gate drain bulk = record {
+  kind = Mos4;
   class = nmos;
-  length = 1000000;
-  width = 500000;
-  source = source;
-  gate = gate;
-  drain = drain;
-  bulk = bulk;
+  sizes = 1000000 ∷ 500000 ∷ [];
+  ends = Both source drain;
+  others = gate ∷ bulk ∷ [];
 }
 
 -- the circuit with other transistors

@@ -19,7 +19,8 @@ use Rattle.headline_laws.specs.FlatNetlist.{IsFlatRegionOf}
 use Rattle.latch_laws.specs.Latch.{untold}
 use Rattle.match_laws.specs.Answer.{Answer, Match}
 use Rattle.match_laws.specs.Circuits.{Pairing}
-use Rattle.plain_netlist.specs.Flats.{Corresponds, expanded, Reversed, Row, Through}
+use Rattle.plain_netlist.specs.Devices.{Row}
+use Rattle.plain_netlist.specs.Flats.{Corresponds, expanded, Reversed, Through}
 use Rattle.plain_netlist.specs.Netlist.{Circuit, Netlist}
 
 -- the names s, o, a, i

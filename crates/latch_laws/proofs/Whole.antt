@@ -5,8 +5,9 @@ use Rattle.std.specs.List.{list_all}
 use Rattle.std.proofs.lemmas.Option.{none-some, same_Some}
 use Rattle.std.proofs.lemmas.Bool.Decides.{Decides-eqb, Decides-ltb}
 use Rattle.plain_netlist.specs.Lists.{IsListed}
-use Rattle.plain_netlist.specs.Netlist.{Pole, Source, Gate, Drain, Bulk, on, DeviceRow, CallRow, Circuit, IsCircuit, IsCall, IsDevice, IsPin, HasNet}
-use Rattle.plain_netlist.specs.Normal.{terminal_nets, appearances, IsNormalCircuit}
+use Rattle.plain_netlist.specs.Netlist.{DeviceRow, CallRow, Circuit, IsCircuit, IsCall, IsDevice, IsPin, HasNet}
+use Rattle.plain_netlist.specs.Devices.{terminal_nets}
+use Rattle.plain_netlist.specs.Normal.{appearances, IsNormalCircuit}
 use Rattle.plain_netlist.specs.Sound.{AreNetsThere, IsGood, HasDevices, IsCalledFrom}
 use Rattle.plain_netlist.proofs.Numbered.{numbered}
 use Rattle.round_laws.specs.Nodes.{Side, Layout, Schematic}
@@ -51,28 +52,22 @@ devices_by : (side : Side) → list_all (λ (d : DeviceRow). list_all (λ n. ltb
 devices_by Layout = refl
 devices_by Schematic = refl
 
-terminal_listed : (pole : Pole) (d : DeviceRow) → IsListed (on pole d) (terminal_nets d)
-terminal_listed Drain d = inl refl
-terminal_listed Gate d = inr (inl refl)
-terminal_listed Source d = inr (inr (inl refl))
-terminal_listed Bulk d = inr (inr (inr (inl refl)))
-
 pin_in : (side : Side) (c i n : ℕ) → IsPin (netlist_of side) c i n → slice_get (circuit_of latches side).pins i ≡ Some n
 pin_in side c i n (x, is, h) = subst (λ (z : Circuit). slice_get z.pins i ≡ Some n) (sym (one_only side c x is).1) h
 
 device_in : (side : Side) (c j : ℕ) (d : DeviceRow) → IsDevice (netlist_of side) c j d → IsListed d (circuit_of latches side).devices
 device_in side c j d (x, is, h) = listed _ j d (subst (λ (z : Circuit). slice_get z.devices j ≡ Some d) (sym (one_only side c x is).1) h)
 
-terminal_low : (side : Side) (c j : ℕ) (d : DeviceRow) (pole : Pole) → IsDevice (netlist_of side) c j d → on pole d < 7
-terminal_low side c j d pole h =
-    (Decides-ltb _ _).0 (all_at (λ n. ltb n 7) (on pole d) (terminal_nets d)
-    (all_at (λ (x : DeviceRow). list_all (λ n. ltb n 7) (terminal_nets x)) d (circuit_of latches side).devices (devices_by side) (device_in side c j d h)) (terminal_listed pole d))
+terminal_low : (side : Side) (c j n : ℕ) (d : DeviceRow) → IsDevice (netlist_of side) c j d → IsListed n (terminal_nets d) → n < 7
+terminal_low side c j n d h on =
+    (Decides-ltb _ _).0 (all_at (λ m. ltb m 7) n (terminal_nets d)
+    (all_at (λ (x : DeviceRow). list_all (λ m. ltb m 7) (terminal_nets x)) d (circuit_of latches side).devices (devices_by side) (device_in side c j d h)) on)
 
 within : (side : Side) → AreNetsThere (netlist_of side)
 within side = record {
   pins = λ c i n h. has_net side c n h.0 h.1 ((Decides-ltb _ _).0 (all_at _ n (circuit_of latches side).pins (pins_by side) (listed _ i n (pin_in side c i n h))));
   calls = λ c k p n row h e. absurd (no_call side c k row h);
-  devices = λ c j row pole h. has_net side c (on pole row) h.0 h.1 (terminal_low side c j row pole h);
+  devices = λ c j n row h on. has_net side c n h.0 h.1 (terminal_low side c j n row h on);
 }
 
 -- pin i is net i
@@ -124,24 +119,24 @@ cut_same Schematic = refl
 
 -- each net has a device terminal
 abbrev Terminal : Side → ℕ → Type 0
-Terminal side n = (j : ℕ) × (row : DeviceRow) × (pole : Pole) × (slice_get (circuit_of latches side).devices j ≡ Some row) × (on pole row ≡ n)
+Terminal side n = (j : ℕ) × (row : DeviceRow) × (slice_get (circuit_of latches side).devices j ≡ Some row) × IsListed n (terminal_nets row)
 
 held_one : (side : Side) (n : ℕ) → n < 7 → Terminal side n
-held_one Layout zero h = (4, _, Drain, refl, refl)
-held_one Layout (suc zero) h = (5, _, Drain, refl, refl)
-held_one Layout (suc (suc zero)) h = (4, _, Gate, refl, refl)
-held_one Layout (suc (suc (suc zero))) h = (2, _, Source, refl, refl)
-held_one Layout (suc (suc (suc (suc zero)))) h = (0, _, Source, refl, refl)
-held_one Layout (suc (suc (suc (suc (suc zero))))) h = (0, _, Drain, refl, refl)
-held_one Layout (suc (suc (suc (suc (suc (suc zero)))))) h = (0, _, Gate, refl, refl)
+held_one Layout zero h = (4, _, refl, inl refl)
+held_one Layout (suc zero) h = (5, _, refl, inl refl)
+held_one Layout (suc (suc zero)) h = (4, _, refl, inr (inl refl))
+held_one Layout (suc (suc (suc zero))) h = (2, _, refl, inr (inr (inl refl)))
+held_one Layout (suc (suc (suc (suc zero)))) h = (0, _, refl, inr (inr (inl refl)))
+held_one Layout (suc (suc (suc (suc (suc zero))))) h = (0, _, refl, inl refl)
+held_one Layout (suc (suc (suc (suc (suc (suc zero)))))) h = (0, _, refl, inr (inl refl))
 held_one Layout (suc (suc (suc (suc (suc (suc (suc n))))))) h = absurd (omega arith)
-held_one Schematic zero h = (4, _, Drain, refl, refl)
-held_one Schematic (suc zero) h = (5, _, Drain, refl, refl)
-held_one Schematic (suc (suc zero)) h = (4, _, Gate, refl, refl)
-held_one Schematic (suc (suc (suc zero))) h = (2, _, Source, refl, refl)
-held_one Schematic (suc (suc (suc (suc zero)))) h = (0, _, Source, refl, refl)
-held_one Schematic (suc (suc (suc (suc (suc zero))))) h = (0, _, Drain, refl, refl)
-held_one Schematic (suc (suc (suc (suc (suc (suc zero)))))) h = (0, _, Gate, refl, refl)
+held_one Schematic zero h = (4, _, refl, inl refl)
+held_one Schematic (suc zero) h = (5, _, refl, inl refl)
+held_one Schematic (suc (suc zero)) h = (4, _, refl, inr (inl refl))
+held_one Schematic (suc (suc (suc zero))) h = (2, _, refl, inr (inr (inl refl)))
+held_one Schematic (suc (suc (suc (suc zero)))) h = (0, _, refl, inr (inr (inl refl)))
+held_one Schematic (suc (suc (suc (suc (suc zero))))) h = (0, _, refl, inl refl)
+held_one Schematic (suc (suc (suc (suc (suc (suc zero)))))) h = (0, _, refl, inr (inl refl))
 held_one Schematic (suc (suc (suc (suc (suc (suc (suc n))))))) h = absurd (omega arith)
 
 cut_down : (side : Side) → AreCut (netlist_of side) (netlist_of side) (alignment_of side)
@@ -151,9 +146,9 @@ cut_down side = record {
   held = λ c n k. (
     (λ h.
         let t = held_one side n ((Decides-ltb _ _).0 h) in
-        inl (t.0, t.1, t.2, (circuit_of latches side, subst (λ (m : ℕ). IsCircuit (netlist_of side) m (circuit_of latches side)) (sym (first_only c k)) refl, t.3), t.4)),
+        inl (t.0, t.1, (circuit_of latches side, subst (λ (m : ℕ). IsCircuit (netlist_of side) m (circuit_of latches side)) (sym (first_only c k)) refl, t.2), t.3)),
     (λ h. elim h [
-      | inl d ↦ (Decides-ltb _ _).1 (subst (λ (m : ℕ). m < 7) d.4 (terminal_low side c d.0 d.1 d.2 d.3))
+      | inl d ↦ (Decides-ltb _ _).1 (terminal_low side c d.0 n d.1 d.2 d.3)
       | inr p ↦ absurd (no_call side c p.0 p.1 p.4)
     ]),
   );

@@ -1,6 +1,8 @@
 -- A latch, and the same latch with its two inner nets drawn the other way round: one pair carried
 -- through all premises of a match.
 use Rattle.std.specs.Prelude.{◌<◌, ◌==◌, ltb, ℕ, false, List, [], ◌∷◌, None}
+use Rattle.plain_netlist.specs.declared.kinds.DeviceKind.TheVariants.{Mos4}
+use Rattle.plain_netlist.specs.Devices.{Both}
 use Rattle.plain_netlist.specs.Flats.{Corresponds, expanded}
 use Rattle.plain_netlist.specs.Netlist.{DeviceRow, Circuit, Netlist}
 use Rattle.round_laws.specs.Nodes.{Side, Layout, Schematic}
@@ -14,13 +16,11 @@ use Rattle.composed_laws.specs.Matched.{AreDevicesMatched, AreNetsMatched}
 -- a transistor of 0.1 micrometres' length, with its drain, gate, source and bulk
 abbrev pub transistor : List ℕ → ℕ → ℕ → ℕ → ℕ → ℕ → DeviceRow
 transistor class width drain gate source bulk = record {
+  kind = Mos4;
   class = class;
-  length = 100000000;
-  width = width;
-  source = source;
-  gate = gate;
-  drain = drain;
-  bulk = bulk;
+  sizes = 100000000 ∷ width ∷ [];
+  ends = Both source drain;
+  others = gate ∷ bulk ∷ [];
 }
 
 -- the bytes of NMOS and PMOS

@@ -1,27 +1,24 @@
 //! Two workers at once, in each phase of `extract` whose jobs a board hands out.
 
 use crate::commands::{EXTRACT, Inputs, NONE, ends, holds, run_through};
-use crate::drawn::Item::{Placed, Rect};
-use crate::drawn::{Cell, Item, library};
-use crate::layouts::MOS;
+use crate::layouts::{MOS, stream};
 use job_tests::{Abreast, Visits};
 use std::test::Fail;
 
-const CROSSED: &[Item] = &[Rect(2, [0, 0, 1250, 1500]), Rect(3, [500, -100, 750, 1600])];
-
-const THREE: [Cell; 4] = [
-    Cell("K", CROSSED),
-    Cell("L", CROSSED),
-    Cell("N", CROSSED),
-    Cell(
-        "TOP",
-        &[
-            Placed("K", 0, 0),
-            Placed("L", 2000, 0),
-            Placed("N", 4000, 0),
-        ],
-    ),
-];
+const THREE: &str = "cell K
+rect 2 0 0 1250 1500
+rect 3 500 -100 750 1600
+cell L
+rect 2 0 0 1250 1500
+rect 3 500 -100 750 1600
+cell N
+rect 2 0 0 1250 1500
+rect 3 500 -100 750 1600
+cell TOP
+place K 0 0
+place L 2000 0
+place N 4000 0
+";
 
 const NETLIST: &str = r"* lvs netlist
 .SUBCKT K VSS
@@ -46,7 +43,7 @@ X3 VSS N
 #[test]
 fn both_workers_enter(rt: HostRuntime) -> Result<(), Fail> {
     let alloc = rt.alloc();
-    let layout = library(alloc, &THREE)?;
+    let layout = stream(alloc, THREE)?;
     let inputs = Inputs {
         layout: &layout,
         rules: MOS,

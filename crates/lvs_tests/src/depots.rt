@@ -3,7 +3,7 @@
 ghost use Rattle.lvs_outside.specs.Store.{HasRoom};
 
 use crate::commands::{SHAPES, words_of};
-use crate::streams::stream;
+use crate::layouts::{COMMON, OVERLAP, stream};
 use job_board::OpenGate;
 use lvs_outside::{Depot, EndlessDepot, Failed, IdleDepot, MemorySink, QuietDepot};
 use lvs_run::run_lvs;
@@ -11,13 +11,6 @@ use std::alloc::{AllocError, Global};
 use std::sync::Wait;
 use std::test::Fail;
 use std::thread::Threads;
-
-const RULES: &[u8] = b"a = input(1, 0)\nb = input(2, 0)\nc = a & b\nc.output(10, 0)\n";
-
-// Two rectangles that overlap.
-fn overlap(alloc: Global) -> Result<Vec<u8>, AllocError> {
-    stream(alloc, &[(1, 0, 0, 10, 10), (2, 5, 5, 15, 15)])
-}
 
 // Runs the words over a depot: the code and the line, where the sink's first call fails or not.
 fn over<R: Threads + Wait + Sync, D: Depot>(
@@ -54,8 +47,8 @@ fn endless_rules(rt: HostRuntime) -> Result<(), Fail> {
 fn nothing_taken(rt: HostRuntime) -> Result<(), Fail> {
     let alloc = rt.alloc();
     let mut depot = IdleDepot::new(alloc);
-    depot.put(alloc, "l", &overlap(alloc)?)?;
-    depot.put(alloc, "r", RULES)?;
+    depot.put(alloc, "l", &stream(alloc, OVERLAP)?)?;
+    depot.put(alloc, "r", COMMON.as_bytes())?;
     let (code, line) = over(&rt, alloc, &SHAPES, &mut depot, false)?;
     assert!(rt; line.is_empty());
     assert!(rt; code == 4);
@@ -119,7 +112,7 @@ fn calls_of<R: Threads + Wait + Sync>(
 ) -> Result<(u64, u8), AllocError> {
     let mut inner = QuietDepot::new(alloc);
     inner.lend("l", layout)?;
-    inner.lend("r", RULES)?;
+    inner.lend("r", COMMON.as_bytes())?;
     let mut depot = Asked { inner, calls: 0 };
     let (code, _) = over(rt, alloc, words, &mut depot, sink_fails)?;
     Ok((depot.calls, code))
@@ -130,7 +123,7 @@ fn calls_of<R: Threads + Wait + Sync>(
 #[test]
 fn calls_made(rt: HostRuntime) -> Result<(), Fail> {
     let alloc = rt.alloc();
-    let layout = overlap(alloc)?;
+    let layout = stream(alloc, OVERLAP)?;
     for (words, calls) in &ROWS {
         for sink_fails in [false, true] {
             let (made, code) = calls_of(&rt, alloc, &layout, words, sink_fails)?;

@@ -1,8 +1,7 @@
 //! Calls of the outside that fail, and the numbers of how a run ends.
 
-use crate::commands::{EXTRACT, Failing, Inputs, RUN, Ran, run_of};
-use crate::drawn::library;
-use crate::layouts::{MOS, T, T_NETLIST, T_SCHEMATIC};
+use crate::commands::{EXTRACT, Failing, Inputs, RUN, Ran, SHAPES, drawing, run_of};
+use crate::layouts::{COMMON, MOS, OVERLAP, T, T_NETLIST, T_SCHEMATIC, front, stream};
 use lvs_run::{Refusal, Status};
 use std::alloc::{AllocError, Global};
 use std::process::Abort;
@@ -53,7 +52,7 @@ fn failed<R: Threads + Wait + Sync>(
     depot: u64,
     sink: u64,
 ) -> Result<Ran, AllocError> {
-    let layout = library(alloc, &[T])?;
+    let layout = stream(alloc, T)?;
     let inputs = Inputs {
         layout: &layout,
         rules: MOS,
@@ -86,15 +85,57 @@ fn each_call<R: Abort + Threads + Wait + Sync>(
     Ok(())
 }
 
-/// A stream of the cell `T` without shapes.
-const SHAPES: usize = 102;
+/// The bytes of a stream of the cell `T` without shapes.
+const EMPTY: usize = 102;
 
 #[test]
 fn each_call_fails(rt: HostRuntime) -> Result<(), Fail> {
     let alloc = rt.alloc();
     let netlist = T_NETLIST.len();
-    each_call(&rt, alloc, &EXTRACT, 2, [SHAPES, netlist, 0], 2)?;
-    each_call(&rt, alloc, &RUN, 3, [SHAPES, netlist, 93], 3)?;
+    each_call(&rt, alloc, &EXTRACT, 2, [EMPTY, netlist, 0], 2)?;
+    each_call(&rt, alloc, &RUN, 3, [EMPTY, netlist, 93], 3)?;
+    Ok(())
+}
+
+/// The number of a depot's call that fails, and of the sink's, the status, and how many bytes of the
+/// shapes file are written. The depot has two opens with two reads each, then start, write and
+/// finish of that file.
+static FAILS: [(u64, u64, u8, Option<usize>); 11] = [
+    (1, 0, 4, None),
+    (2, 0, 4, None),
+    (3, 0, 4, None),
+    (4, 0, 4, None),
+    (5, 0, 4, None),
+    (6, 0, 4, None),
+    (7, 0, 4, None),
+    (8, 0, 4, Some(0)),
+    (9, 0, 4, Some(166)),
+    (10, 0, 0, Some(166)),
+    (0, 1, 4, Some(166)),
+];
+
+// Whether a run left so many of these bytes, or no file.
+fn has_front(run: &Ran, whole: &[u8], written: Option<usize>) -> bool {
+    match (&run.shapes, written) {
+        (None, None) => true,
+        (Some(found), Some(length)) => found.as_slice() == front(whole, length),
+        _ => false,
+    }
+}
+
+#[test]
+fn each_call_of_shapes_fails(rt: HostRuntime) -> Result<(), Fail> {
+    let alloc = rt.alloc();
+    let layout = stream(alloc, OVERLAP)?;
+    let wanted = stream(alloc, "cell A\nrect 10 5 5 10 10\n")?;
+    for (depot, sink, code, written) in &FAILS {
+        let (depot, sink) = (*depot, *sink);
+        let failing = Failing { depot, sink };
+        let run = run_of(&rt, alloc, drawing(&layout, COMMON), &SHAPES, failing)?;
+        let is_so = run.code == *code && run.line.is_empty() == (*code == 4);
+        assert!(rt; is_so, "{depot} {sink}");
+        assert!(rt; has_front(&run, &wanted, *written), "{depot} {sink}");
+    }
     Ok(())
 }
 

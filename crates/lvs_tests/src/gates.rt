@@ -5,13 +5,12 @@ ghost use Rattle.rule_text.specs.Seen.{rules_seen};
 ghost use Rattle.rule_text.specs.Sound.{IsSound};
 
 use crate::inputs::{Inputs, Kept, read};
-use crate::lettered::Placed::{At, Grid, Turned};
-use crate::lettered::{Drawn, Shape, stream_of};
-use crate::letters::{M0, M90, M180, M270, R0, R90, R180, R270};
+use crate::layouts::stream;
 use deep_flow::derive_pins;
 use deep_tables::{GateCause, GateState};
 use geo_base::Square;
 use job_board::{Crew, OpenGate};
+use plain_netlist::DeviceKind;
 use std::alloc::{AllocError, Global};
 use std::sync::Wait;
 use std::test::Fail;
@@ -27,17 +26,6 @@ const PMOS: &[u8] = b"active = input(2, 0)\npoly = input(3, 0)\ntxt = labels(5, 
 well = input(1, 0)\ngate = active & poly\nsd = active - poly
 extract_devices(mos4(\"P\"), { \"SD\" => sd, \"G\" => gate, \"W\" => well, \"tG\" => poly })
 connect(sd, txt)\nconnect(poly, txt)\nconnect(well, txt)\n";
-
-const WELL: u8 = 1;
-
-/// The layer of source, drain and gate.
-pub const ACTIVE: u8 = 2;
-
-/// The layer of the gates' conductor.
-pub const POLY: u8 = 3;
-
-// A transistor of width 10 and length 10.
-const PLAIN: [Shape; 2] = [(ACTIVE, [0, 0, 30, 10]), (POLY, [10, -5, 20, 15])];
 
 // A gate of a cell's list.
 #[derive(Clone, Copy, Debug, PartialEq, Eq)]
@@ -55,12 +43,10 @@ macro_rules! good {
             cell: $cell,
             least: Square { x: $x, y: $y },
             state: GateState::Good {
+                kind: DeviceKind::Mos4,
                 twice_w: $w,
                 twice_l: $l,
-                source: $s,
-                drain: $d,
-                gate: $g,
-                bulk: $b,
+                nets: [$d, $g, $s, $b],
             },
         }
     };
@@ -122,66 +108,21 @@ fn has_gates<R: Threads + Wait + Sync>(
     Ok(true)
 }
 
-/// A transistor of width 1,500 and length 250.
-pub const CROSSED: [Shape; 2] = [(ACTIVE, [0, 0, 1250, 1500]), (POLY, [500, -100, 750, 1600])];
+/// Layouts, their rules, and the gates of all lists.
+struct Case(&'static str, &'static [u8], &'static [Listed]);
 
-/// A gate that ends in the active layer.
-const HALF_CROSSED: [Shape; 2] = [(ACTIVE, [0, 0, 30, 30]), (POLY, [10, -5, 20, 15])];
-
-/// A gate round a square.
-const RING: [Shape; 5] = [
-    (ACTIVE, [0, 0, 50, 50]),
-    (POLY, [10, 10, 40, 20]),
-    (POLY, [10, 30, 40, 40]),
-    (POLY, [10, 20, 20, 30]),
-    (POLY, [30, 20, 40, 30]),
-];
-
-const CORNER: [Shape; 3] = [
-    (ACTIVE, [0, 0, 30, 30]),
-    (POLY, [10, -5, 14, 20]),
-    (POLY, [10, 16, 35, 20]),
-];
-
-const BOW: [Shape; 4] = [
-    (ACTIVE, [0, 0, 40, 40]),
-    (POLY, [10, 10, 14, 45]),
-    (POLY, [26, 10, 30, 45]),
-    (POLY, [10, 10, 30, 14]),
-];
-
-const PAIR: [Shape; 3] = [
-    (ACTIVE, [0, 0, 50, 10]),
-    (POLY, [10, -5, 14, 15]),
-    (POLY, [30, -5, 34, 15]),
-];
-
-/// The plain transistor, as a cell C.
-const ONE: Drawn = Drawn(b'C', &PLAIN, &[], &[]);
-
-/// Cells, their rules, and the gates of all lists.
-struct Case(&'static [Drawn], &'static [u8], &'static [Listed]);
-
-// A cell of these shapes.
-macro_rules! one_cell {
-    ($shapes:expr, $gates:expr) => {
-        Case(&[Drawn(b'T', $shapes, &[], &[])], NMOS, $gates)
-    };
-}
-
-// Two placements on one spot in a turn: the gate is the parent's, and has its sizes in each turn.
+// Two placements of a transistor of width 10 and length 10 on one spot in a turn: the gate is the
+// parent's, and has its sizes in each turn.
 macro_rules! twice {
     ($turn:expr, $x:expr, $y:expr) => {
         Case(
-            &[
-                ONE,
-                Drawn(
-                    b'T',
-                    &[],
-                    &[],
-                    &[Turned(b'C', $turn), Turned(b'C', $turn)],
-                ),
-            ],
+            concat!(
+                "cell C\nrect 2 0 0 30 10\nrect 3 10 -5 20 15\ncell T\nplace C 0 0 ",
+                $turn,
+                "\nplace C 0 0 ",
+                $turn,
+                "\n"
+            ),
             NMOS,
             &[good!(1, $x, $y, [20, 20], [0, 1, 2, 3])],
         )
@@ -189,53 +130,115 @@ macro_rules! twice {
 }
 
 static CASES: [Case; 19] = [
-    // A gate across the active layer, one that ends in it, a ring, an L, a U, and two gates with a
-    // group in common.
-    one_cell!(&CROSSED, &[good!(0, 500, 0, [3000, 500], [1, 2, 0, 3])]),
-    one_cell!(&HALF_CROSSED, &[bad!(0, 10, 0, GateCause::Groups(1))]),
-    one_cell!(&RING, &[bad!(0, 10, 10, GateCause::NoLength)]),
-    one_cell!(&CORNER, &[good!(0, 10, 0, [72, 8], [1, 2, 0, 3])]),
-    one_cell!(&BOW, &[good!(0, 10, 10, [144, 8], [1, 2, 0, 3])]),
-    one_cell!(
-        &PAIR,
+    // A gate across the active layer.
+    Case(
+        "cell T
+rect 2 0 0 1250 1500
+rect 3 500 -100 750 1600
+",
+        NMOS,
+        &[good!(0, 500, 0, [3000, 500], [1, 2, 0, 3])],
+    ),
+    // One that ends in it.
+    Case(
+        "cell T
+rect 2 0 0 30 30
+rect 3 10 -5 20 15
+",
+        NMOS,
+        &[bad!(0, 10, 0, GateCause::Groups(1))],
+    ),
+    // A ring round a square.
+    Case(
+        "cell T
+rect 2 0 0 50 50
+rect 3 10 10 40 20
+rect 3 10 30 40 40
+rect 3 10 20 20 30
+rect 3 30 20 40 30
+",
+        NMOS,
+        &[bad!(0, 10, 10, GateCause::NoLength)],
+    ),
+    // An L.
+    Case(
+        "cell T
+rect 2 0 0 30 30
+rect 3 10 -5 14 20
+rect 3 10 16 35 20
+",
+        NMOS,
+        &[good!(0, 10, 0, [72, 8], [1, 2, 0, 3])],
+    ),
+    // A U.
+    Case(
+        "cell T
+rect 2 0 0 40 40
+rect 3 10 10 14 45
+rect 3 26 10 30 45
+rect 3 10 10 30 14
+",
+        NMOS,
+        &[good!(0, 10, 10, [144, 8], [1, 2, 0, 3])],
+    ),
+    // Two gates with a group in common.
+    Case(
+        "cell T
+rect 2 0 0 50 10
+rect 3 10 -5 14 15
+rect 3 30 -5 34 15
+",
+        NMOS,
         &[
             good!(0, 10, 0, [20, 8], [2, 3, 0, 5]),
             good!(0, 30, 0, [20, 8], [3, 4, 1, 5]),
-        ]
+        ],
     ),
     // The active layer of one cell and the gate conductor of its parent.
     Case(
-        &[
-            Drawn(b'A', &[(ACTIVE, [0, 0, 50, 20])], &[], &[]),
-            Drawn(b'T', &[(POLY, [20, -5, 30, 25])], &[], &[At(b'A', 0, 0)]),
-        ],
+        "cell A
+rect 2 0 0 50 20
+cell T
+rect 3 20 -5 30 25
+place A 0 0
+",
         NMOS,
         &[good!(1, 20, 0, [40, 20], [1, 2, 0, 3])],
     ),
     // A gate whose squares stand in three cells.
     Case(
-        &[
-            Drawn(b'A', &[(ACTIVE, [0, 0, 15, 10])], &[], &[]),
-            Drawn(b'B', &[(ACTIVE, [15, 0, 30, 10])], &[], &[]),
-            Drawn(b'C', &[(POLY, [10, -5, 20, 15])], &[], &[]),
-            Drawn(
-                b'T',
-                &[],
-                &[],
-                &[At(b'A', 0, 0), At(b'B', 0, 0), At(b'C', 0, 0)],
-            ),
-        ],
+        "cell A
+rect 2 0 0 15 10
+cell B
+rect 2 15 0 30 10
+cell C
+rect 3 10 -5 20 15
+cell T
+place A 0 0
+place B 0 0
+place C 0 0
+",
         NMOS,
         &[good!(3, 10, 0, [20, 20], [0, 2, 3, 1])],
     ),
     // Columns that leave each other's rings free, and columns that don't.
     Case(
-        &[ONE, Drawn(b'T', &[], &[], &[Grid(b'C', 2, 42, 100)])],
+        "cell C
+rect 2 0 0 30 10
+rect 3 10 -5 20 15
+cell T
+array C 0 0 2 2 21,0 0,50
+",
         NMOS,
         &[good!(0, 10, 0, [20, 20], [1, 2, 0, 3])],
     ),
     Case(
-        &[ONE, Drawn(b'T', &[], &[], &[Grid(b'C', 2, 40, 100)])],
+        "cell C
+rect 2 0 0 30 10
+rect 3 10 -5 20 15
+cell T
+array C 0 0 2 2 20,0 0,50
+",
         NMOS,
         &[
             good!(1, 10, 0, [20, 20], [0, 1, 6, 7]),
@@ -246,15 +249,13 @@ static CASES: [Case; 19] = [
     ),
     // A well of the top over the first column alone.
     Case(
-        &[
-            ONE,
-            Drawn(
-                b'T',
-                &[(WELL, [-5, -20, 35, 70])],
-                &[],
-                &[Grid(b'C', 2, 100, 100)],
-            ),
-        ],
+        "cell C
+rect 2 0 0 30 10
+rect 3 10 -5 20 15
+cell T
+rect 1 -5 -20 35 70
+array C 0 0 2 2 50,0 0,50
+",
         PMOS,
         &[
             good!(1, 10, 0, [20, 20], [2, 3, 1, 0]),
@@ -263,21 +264,21 @@ static CASES: [Case; 19] = [
             bad!(1, 60, 50, GateCause::NoBulk),
         ],
     ),
-    twice!(R0, 10, 0),
-    twice!(R90, -10, 10),
-    twice!(R180, -20, -10),
-    twice!(R270, 0, -20),
-    twice!(M0, 10, -10),
-    twice!(M90, 0, 10),
-    twice!(M180, -20, 0),
-    twice!(M270, -10, -20),
+    twice!("R0", 10, 0),
+    twice!("R90", -10, 10),
+    twice!("R180", -20, -10),
+    twice!("R270", 0, -20),
+    twice!("M0", 10, -10),
+    twice!("M90", 0, 10),
+    twice!("M180", -20, 0),
+    twice!("M270", -10, -20),
 ];
 
 #[test]
 fn gates_of_cells(rt: HostRuntime) -> Result<(), Fail> {
     let alloc: Global = rt.alloc();
     for Case(cells, rules, gates) in &CASES {
-        let layout = stream_of(alloc, cells)?;
+        let layout = stream(alloc, cells)?;
         assert!(rt; has_gates(&rt, alloc, &layout, rules, gates)?, "{gates:?}");
     }
     Ok(())

@@ -1,56 +1,59 @@
-//! Layouts at the limits of the format and of the reach, and one that is swept all at once.
+//! Layouts at the limits of the format.
 
-use crate::elements::{FAR, Form, HEAD, OUTLINE, TAIL, push, push_rectangle};
-use crate::shaped::{COPY, writes, writes_count};
+use crate::commands::{NONE, SHAPES, bytes_of, drawing, ends, run_of};
+use crate::layouts::{COPY, stream};
 use std::alloc::{AllocError, Global};
+use std::process::Abort;
+use std::sync::Wait;
 use std::test::Fail;
+use std::thread::Threads;
 
-/// A PATH of width 20 that goes on by half of it at both ends.
-const WIRE: Form = Form {
-    start: 0x09,
-    kind: 0x0E,
-    before: &[0, 6, 0x21, 2, 0, 2, 0, 8, 0x0F, 3, 0, 0, 0, 20],
-    after: &[],
-};
-
-// The stream of these rectangles on a layer.
-fn rectangles(alloc: Global, layer: u16, corners: &[[i32; 4]]) -> Result<Vec<u8>, AllocError> {
-    let mut out = HEAD.to_vec(alloc)?;
-    for corners in corners {
-        push_rectangle(&mut out, layer, 0, *corners)?;
-    }
-    out.extend_from_slice(&TAIL)?;
-    Ok(out)
+// A run of `shapes` on a layout gives this one, with so many rectangles.
+fn writes<R: Abort + Threads + Wait + Sync>(
+    rt: &R,
+    alloc: Global,
+    layout: &str,
+    wanted: &str,
+    count: usize,
+) -> Result<(), AllocError> {
+    let line = format!(in alloc; "shapes cells 1 rectangles {count}\n")?;
+    let (layout, wanted) = (stream(alloc, layout)?, stream(alloc, wanted)?);
+    let ran = run_of(rt, alloc, drawing(&layout, COPY), &SHAPES, NONE)?;
+    ends(rt, &ran, 0, line.as_str(), "limit");
+    assert!(rt; bytes_of(&ran.shapes) == wanted.as_slice(), "{count}");
+    Ok(())
 }
 
-// The stream of one element on layer 1.
-fn element(alloc: Global, form: &Form, points: &[i32]) -> Result<Vec<u8>, AllocError> {
-    let mut out = HEAD.to_vec(alloc)?;
-    push(&mut out, 1, 0, form, points)?;
-    out.extend_from_slice(&TAIL)?;
-    Ok(out)
+// Adds a tooth of a comb to the outline and to what is wanted: a gap from x on, and the tooth.
+fn push_tooth(
+    alloc: Global,
+    outline: &mut String,
+    wanted: &mut String,
+    x: i32,
+) -> Result<(), AllocError> {
+    let (gap, next, end) = (x.wrapping_add(1), x.wrapping_add(2), x.wrapping_add(3));
+    let points = format!(in alloc; " {gap},10 {gap},5 {next},5 {next},10")?;
+    outline.push_str(points.as_str())?;
+    let tooth = format!(in alloc; "rect 10 {next} 5 {end} 10\n")?;
+    wanted.push_str(tooth.as_str())
 }
 
-// The points of a comb behind so many in its first corner, and its rectangles, for its teeth behind
-// the first.
-fn comb(alloc: Global, first: usize, teeth: i32) -> Result<(Vec<i32>, Vec<[i32; 4]>), AllocError> {
-    let mut points = Vec::new(alloc);
+// A comb of so many teeth behind the first, with so many points in its first corner, and its
+// rectangles.
+fn comb(alloc: Global, first: usize, teeth: i32) -> Result<(String, String), AllocError> {
+    let width = teeth.wrapping_mul(2).wrapping_add(1);
+    let mut outline = String::from_str(alloc, "cell TOP\noutline 1")?;
     for _ in 0..first {
-        points.extend_from_slice(&[0, 0])?;
+        outline.push_str(" 0,0")?;
     }
-    points.extend_from_slice(&[0, 10])?;
-    let mut wanted = Vec::new(alloc);
-    let width = teeth.saturating_mul(2).saturating_add(1);
-    wanted.push([0, 0, width, 5])?;
-    wanted.push([0, 5, 1, 10])?;
+    outline.push_str(" 0,10")?;
+    let mut wanted = format!(in alloc; "cell TOP\nrect 10 0 0 {width} 5\nrect 10 0 5 1 10\n")?;
     for tooth in 0..teeth {
-        let x = tooth.saturating_mul(2);
-        let (gap, next) = (x.saturating_add(1), x.saturating_add(2));
-        points.extend_from_slice(&[gap, 10, gap, 5, next, 5, next, 10])?;
-        wanted.push([next, 5, next.saturating_add(1), 10])?;
+        push_tooth(alloc, &mut outline, &mut wanted, tooth.wrapping_mul(2))?;
     }
-    points.extend_from_slice(&[width, 10, width, 0, 0, 0])?;
-    Ok((points, wanted))
+    let last = format!(in alloc; " {width},10 {width},0\n")?;
+    outline.push_str(last.as_str())?;
+    Ok((outline, wanted))
 }
 
 // Outlines of 8,191 points, the most that one XY holds, and of 1,000,000, the most that one element
@@ -58,23 +61,10 @@ fn comb(alloc: Global, first: usize, teeth: i32) -> Result<(Vec<i32>, Vec<[i32; 
 #[test]
 fn longest_outline(rt: HostRuntime) -> Result<(), Fail> {
     let alloc = rt.alloc();
-    for (count, first, teeth) in [(8191, 3, 2046), (1_000_000, 4, 249_998)] {
-        let (points, wanted) = comb(alloc, first, teeth)?;
-        assert_eq!(rt; points.len(), 2 * count);
-        let layout = element(alloc, &OUTLINE, &points)?;
-        let wanted = rectangles(alloc, 10, &wanted)?;
-        writes(&rt, alloc, &layout, COPY, &wanted, "comb of one outline")?;
+    for (first, teeth, count) in [(3, 2046, 2048), (4, 249_998, 250_000)] {
+        let (outline, wanted) = comb(alloc, first, teeth)?;
+        writes(&rt, alloc, outline.as_str(), wanted.as_str(), count)?;
     }
-    Ok(())
-}
-
-// A path from border to border.
-#[test]
-fn farthest_path(rt: HostRuntime) -> Result<(), Fail> {
-    let alloc = rt.alloc();
-    let layout = element(alloc, &WIRE, &[10 - FAR, 0, FAR - 10, 0])?;
-    let wanted = rectangles(alloc, 10, &[[-FAR, -10, FAR, 10]])?;
-    writes(&rt, alloc, &layout, COPY, &wanted, "path")?;
     Ok(())
 }
 
@@ -82,28 +72,10 @@ fn farthest_path(rt: HostRuntime) -> Result<(), Fail> {
 #[test]
 fn longest_name(rt: HostRuntime) -> Result<(), Fail> {
     let alloc = rt.alloc();
-    let mut layout = HEAD.get(..90).unwrap_or(&[]).to_vec(alloc)?;
-    layout.extend_from_slice(&[0xFF, 0xFE, 0x06, 0x06])?;
+    let mut cell = String::from_str(alloc, "cell ")?;
     for _ in 0..65530 {
-        layout.push(b'N')?;
+        cell.push_str("N")?;
     }
-    layout.extend_from_slice(&TAIL)?;
-    writes_count(&rt, alloc, &layout, COPY, &layout, 0, "name")?;
-    Ok(())
-}
-
-// 40,000 rectangles on top of one another with gaps: no row crosses two, so they are swept at once,
-// 80,000 edges.
-#[test]
-fn one_sweep(rt: HostRuntime) -> Result<(), Fail> {
-    let alloc = rt.alloc();
-    let mut corners = Vec::new(alloc);
-    for k in 0..40000i32 {
-        let y = k.saturating_mul(2);
-        corners.push([0, y, 10, y.saturating_add(1)])?;
-    }
-    let layout = rectangles(alloc, 1, &corners)?;
-    let wanted = rectangles(alloc, 10, &corners)?;
-    writes(&rt, alloc, &layout, COPY, &wanted, "stack")?;
+    writes(&rt, alloc, cell.as_str(), cell.as_str(), 0)?;
     Ok(())
 }

@@ -1,90 +1,42 @@
-//! Layouts of many circuits, and of many placements in one cell.
+//! Layouts of many circuits.
 
 use crate::commands::{EXTRACT, Inputs, NONE, ends, run_of};
-use crate::drawn::{begin, begin_cell, end, end_cell, push_grid, push_placed, push_rect};
-use crate::layouts::MOS;
+use crate::layouts::{MOS, stream};
 use std::alloc::{AllocError, Global};
-use std::process::Abort;
-use std::sync::Wait;
 use std::test::Fail;
-use std::thread::Threads;
 
 /// How many cells there are beside the top, a transistor in each.
-const CELLS: u32 = 1024;
-
-fn push_cell(alloc: Global, out: &mut Vec<u8>, number: u32) -> Result<(), AllocError> {
-    let name = format!(in alloc; "C{number}")?;
-    begin_cell(alloc, out, name.as_str())?;
-    push_rect(alloc, out, 2, [0, 0, 1250, 1500])?;
-    push_rect(alloc, out, 3, [500, -100, 750, 1600])?;
-    end_cell(out)
-}
+const CELLS: i32 = 1024;
 
 // Each cell is placed once in the top, side by side.
-fn many_cells(alloc: Global) -> Result<Vec<u8>, AllocError> {
-    let mut out = begin(alloc)?;
+fn many_cells(alloc: Global) -> Result<String, AllocError> {
+    let mut text = String::new(alloc);
     for number in 0..CELLS {
-        push_cell(alloc, &mut out, number)?;
+        let cell = format!(in alloc; "cell C{number}\n")?;
+        text.push_str(cell.as_str())?;
+        text.push_str("rect 2 0 0 1250 1500\nrect 3 500 -100 750 1600\n")?;
     }
-    begin_cell(alloc, &mut out, "T")?;
-    let mut x = 0i32;
+    text.push_str("cell T\n")?;
     for number in 0..CELLS {
-        let name = format!(in alloc; "C{number}")?;
-        push_placed(alloc, &mut out, name.as_str(), x, 0)?;
-        x = x.saturating_add(2000);
+        let x = number.wrapping_mul(2000);
+        let place = format!(in alloc; "place C{number} {x} 0\n")?;
+        text.push_str(place.as_str())?;
     }
-    end_cell(&mut out)?;
-    end(&mut out)?;
-    Ok(out)
-}
-
-// A cell of one square is placed 65,537 times in the top: in a grid, and once beside it.
-fn many_placements(alloc: Global) -> Result<Vec<u8>, AllocError> {
-    let mut out = begin(alloc)?;
-    begin_cell(alloc, &mut out, "C")?;
-    push_rect(alloc, &mut out, 2, [0, 0, 10, 10])?;
-    end_cell(&mut out)?;
-    begin_cell(alloc, &mut out, "T")?;
-    push_grid(alloc, &mut out, "C", [256, 256], 20)?;
-    push_placed(alloc, &mut out, "C", -20, 0)?;
-    end_cell(&mut out)?;
-    end(&mut out)?;
-    Ok(out)
-}
-
-fn extracts<R: Abort + Threads + Wait + Sync>(
-    rt: &R,
-    alloc: Global,
-    layout: &[u8],
-    line: &str,
-) -> Result<(), AllocError> {
-    let inputs = Inputs {
-        layout,
-        rules: MOS,
-        schematic: "",
-    };
-    let ran = run_of(rt, alloc, inputs, &EXTRACT, NONE)?;
-    ends(rt, &ran, 0, line, line);
-    Ok(())
+    Ok(text)
 }
 
 #[test]
 fn circuits(rt: HostRuntime) -> Result<(), Fail> {
     let alloc = rt.alloc();
-    let layout = many_cells(alloc)?;
-    extracts(
-        &rt,
-        alloc,
-        &layout,
-        "extracted cells 1025 circuits 1025 bad 0\n",
-    )?;
-    Ok(())
-}
-
-#[test]
-fn placements(rt: HostRuntime) -> Result<(), Fail> {
-    let alloc = rt.alloc();
-    let layout = many_placements(alloc)?;
-    extracts(&rt, alloc, &layout, "extracted cells 2 circuits 1 bad 0\n")?;
+    let text = many_cells(alloc)?;
+    let layout = stream(alloc, text.as_str())?;
+    let inputs = Inputs {
+        layout: &layout,
+        rules: MOS,
+        schematic: "",
+    };
+    let ran = run_of(&rt, alloc, inputs, &EXTRACT, NONE)?;
+    let line = "extracted cells 1025 circuits 1025 bad 0\n";
+    ends(&rt, &ran, 0, line, line);
     Ok(())
 }

@@ -5,12 +5,7 @@ ghost use Rattle.rule_text.specs.Seen.{rules_seen};
 ghost use Rattle.rule_text.specs.Sound.{IsSound};
 
 use crate::inputs::{Inputs, Kept, read};
-use crate::lettered::Placed::{At, Grid, Turned};
-use crate::lettered::{Drawn, Shape, stream_of};
-use crate::letters::{
-    M0, M90, M180, M270, R0, R90, R180, R270, push_cell, push_end, push_last, push_place,
-    push_rect, start,
-};
+use crate::layouts::stream;
 use deep_flow::derive_pins;
 use job_board::{Crew, OpenGate};
 use std::alloc::{AllocError, Global};
@@ -69,38 +64,28 @@ fn has_nets<R: Threads + Wait + Sync>(
     Ok(true)
 }
 
-/// A cell C of one square.
-const SQUARE: Drawn = Drawn(b'C', &[(1, [0, 0, 10, 10])], &[], &[]);
+/// A layout, its rules, the net of each item of the last cell, and how many nets it has.
+struct Case(&'static str, &'static [u8], &'static [u32], u32);
 
-/// Two squares with a gap between them.
-const APART: [Shape; 2] = [(1, [0, 0, 10, 10]), (1, [20, 0, 30, 10])];
-
-/// A cell C of a bar.
-const BAR: Drawn = Drawn(b'C', &[(1, [0, 0, 10, 5])], &[], &[]);
-
-/// For each turn a square in the far corner of the turned bar.
-const PROBES: [Shape; 8] = [
-    (1, [9, 4, 10, 5]),
-    (1, [-5, 9, -4, 10]),
-    (1, [-10, -5, -9, -4]),
-    (1, [4, -10, 5, -9]),
-    (1, [9, -5, 10, -4]),
-    (1, [4, 9, 5, 10]),
-    (1, [-10, 4, -9, 5]),
-    (1, [-5, -10, -4, -9]),
-];
-
-/// Cells, their rules, the net of each item of the last cell, and how many nets it has.
-struct Case(&'static [Drawn], &'static [u8], &'static [u32], u32);
-
-// The bar in a turn beside all probes: its net is that of its turn's probe, and touches no other.
+// A bar in a turn beside probes, for each turn a square in the far corner of the turned bar: its net
+// is that of its turn's probe, and touches no other.
 macro_rules! probed {
     ($turn:expr, $net:expr) => {
         Case(
-            &[
-                BAR,
-                Drawn(b'T', &PROBES, &[], &[Turned(b'C', $turn)]),
-            ],
+            concat!(
+                "cell C\nrect 1 0 0 10 5\ncell T\n",
+                "rect 1 9 4 10 5\n",
+                "rect 1 -5 9 -4 10\n",
+                "rect 1 -10 -5 -9 -4\n",
+                "rect 1 4 -10 5 -9\n",
+                "rect 1 9 -5 10 -4\n",
+                "rect 1 4 9 5 10\n",
+                "rect 1 -10 4 -9 5\n",
+                "rect 1 -5 -10 -4 -9\n",
+                "place C 0 0 ",
+                $turn,
+                "\n"
+            ),
             RULES,
             &[0, 1, 2, 3, 4, 5, 6, 7, $net],
             8,
@@ -108,114 +93,143 @@ macro_rules! probed {
     };
 }
 
-// The square in two columns and two rows, which together are so wide and so high.
-macro_rules! four {
-    ($wide:expr, $high:expr, $nets:expr, $count:expr) => {
-        Case(
-            &[
-                SQUARE,
-                Drawn(b'T', &[], &[], &[Grid(b'C', 2, $wide, $high)]),
-            ],
-            RULES,
-            $nets,
-            $count,
-        )
-    };
-}
-
 static CASES: [Case; 18] = [
     // Joined by the child's square.
     Case(
-        &[SQUARE, Drawn(b'T', &APART, &[], &[At(b'C', 10, 0)])],
+        "cell C
+rect 1 0 0 10 10
+cell T
+rect 1 0 0 10 10
+rect 1 20 0 30 10
+place C 10 0
+",
         RULES,
         &[0, 0, 0],
         1,
     ),
     // Corners alone, and an edge.
     Case(
-        &[SQUARE, Drawn(b'T', &APART, &[], &[At(b'C', 10, 10)])],
+        "cell C
+rect 1 0 0 10 10
+cell T
+rect 1 0 0 10 10
+rect 1 20 0 30 10
+place C 10 10
+",
         RULES,
         &[0, 1, 2],
         3,
     ),
     Case(
-        &[SQUARE, Drawn(b'T', &APART, &[], &[At(b'C', 11, 10)])],
+        "cell C
+rect 1 0 0 10 10
+cell T
+rect 1 0 0 10 10
+rect 1 20 0 30 10
+place C 11 10
+",
         RULES,
         &[0, 1, 1],
         2,
     ),
     // A rectangle of its own, and two placements of a cell with a part of the global.
     Case(
-        &[
-            Drawn(b'C', &[(3, [0, 0, 10, 10])], &[], &[]),
-            Drawn(
-                b'T',
-                &[(1, [0, 0, 10, 10])],
-                &[],
-                &[At(b'C', 0, 0), At(b'C', 100, 0)],
-            ),
-        ],
+        "cell C
+rect 3 0 0 10 10
+cell T
+rect 1 0 0 10 10
+place C 0 0
+place C 100 0
+",
         GROUNDED,
         &[0, 1, 1, 1],
         2,
     ),
-    four!(20, 20, &[0, 0, 0, 0], 1),
-    four!(40, 20, &[0, 1, 0, 1], 2),
-    four!(20, 40, &[0, 0, 1, 1], 2),
-    four!(40, 40, &[0, 1, 2, 3], 4),
+    // The square in two columns and two rows.
+    Case(
+        "cell C
+rect 1 0 0 10 10
+cell T
+array C 0 0 2 2 10,0 0,10
+",
+        RULES,
+        &[0, 0, 0, 0],
+        1,
+    ),
+    Case(
+        "cell C
+rect 1 0 0 10 10
+cell T
+array C 0 0 2 2 20,0 0,10
+",
+        RULES,
+        &[0, 1, 0, 1],
+        2,
+    ),
+    Case(
+        "cell C
+rect 1 0 0 10 10
+cell T
+array C 0 0 2 2 10,0 0,20
+",
+        RULES,
+        &[0, 0, 1, 1],
+        2,
+    ),
+    Case(
+        "cell C
+rect 1 0 0 10 10
+cell T
+array C 0 0 2 2 20,0 0,20
+",
+        RULES,
+        &[0, 1, 2, 3],
+        4,
+    ),
     // Each element is two squares with a corner in common, and meets its neighbours at corners
     // alone.
     Case(
-        &[
-            Drawn(
-                b'C',
-                &[(1, [10, 0, 20, 10]), (1, [0, 10, 10, 20])],
-                &[],
-                &[],
-            ),
-            Drawn(b'T', &[], &[], &[Grid(b'C', 2, 40, 40)]),
-        ],
+        "cell C
+rect 1 10 0 20 10
+rect 1 0 10 10 20
+cell T
+array C 0 0 2 2 20,0 0,20
+",
         RULES,
         &[0, 1, 2, 3, 4, 5, 6, 7],
         8,
     ),
     // Two children that overlap, two on one spot, and one apart.
     Case(
-        &[
-            SQUARE,
-            Drawn(
-                b'T',
-                &[],
-                &[],
-                &[
-                    At(b'C', 0, 0),
-                    At(b'C', 40, 0),
-                    At(b'C', 5, 0),
-                    At(b'C', 40, 0),
-                    At(b'C', 60, 0),
-                ],
-            ),
-        ],
+        "cell C
+rect 1 0 0 10 10
+cell T
+place C 0 0
+place C 40 0
+place C 5 0
+place C 40 0
+place C 60 0
+",
         RULES,
         &[0, 1, 0, 1, 2],
         3,
     ),
     // The place of each turn's probe among all of them, by y, then x.
-    probed!(R0, 5),
-    probed!(R90, 6),
-    probed!(R180, 2),
-    probed!(R270, 1),
-    probed!(M0, 3),
-    probed!(M90, 7),
-    probed!(M180, 4),
-    probed!(M270, 0),
+    probed!("R0", 5),
+    probed!("R90", 6),
+    probed!("R180", 2),
+    probed!("R270", 1),
+    probed!("M0", 3),
+    probed!("M90", 7),
+    probed!("M180", 4),
+    probed!("M270", 0),
 ];
 
 #[test]
 fn nets_of_top_cells(rt: HostRuntime) -> Result<(), Fail> {
     let alloc: Global = rt.alloc();
     for Case(cells, rules, nets, count) in &CASES {
-        let layout = stream_of(alloc, cells)?;
+        let layout = stream(alloc, cells)?;
         let is_so = has_nets(&rt, alloc, &layout, rules, nets, *count)?;
         assert!(rt; is_so, "{nets:?}");
     }
@@ -223,17 +237,19 @@ fn nets_of_top_cells(rt: HostRuntime) -> Result<(), Fail> {
 }
 
 /// A cell of 2^16 squares, placed 2^16 times, has 2^32 items.
-static MANY: [Drawn; 3] = [
-    Drawn(b'C', &[(1, [0, 0, 5, 5])], &[], &[]),
-    Drawn(b'D', &[], &[], &[Grid(b'C', 256, 2560, 2560)]),
-    Drawn(b'T', &[], &[], &[Grid(b'D', 256, 655_360, 655_360)]),
-];
+const MANY: &str = "cell C
+rect 1 0 0 5 5
+cell D
+array C 0 0 256 256 10,0 0,10
+cell T
+array D 0 0 256 256 2560,0 0,2560
+";
 
 // Want of memory, at once.
 #[test]
 fn too_many_items(rt: HostRuntime) -> Result<(), Fail> {
     let alloc: Global = rt.alloc();
-    let inputs = read(alloc, &stream_of(alloc, &MANY)?, RULES)?;
+    let inputs = read(alloc, &stream(alloc, MANY)?, RULES)?;
     assert!(rt; top_nets(&rt, alloc, &inputs, 1).is_err());
     Ok(())
 }
@@ -241,23 +257,20 @@ fn too_many_items(rt: HostRuntime) -> Result<(), Fail> {
 // A row of 2^24 squares, in which each cell places the one before twice, side by side. Where it has
 // a roof, the top has a rectangle of the other layer over all of them.
 fn row(alloc: Global, has_roof: bool) -> Result<Vec<u8>, AllocError> {
-    let mut layout = start(alloc)?;
-    push_cell(&mut layout, b'A')?;
-    push_rect(&mut layout, 1, [0, 0, 10, 10])?;
-    push_end(&mut layout)?;
+    let mut text = String::from_str(alloc, "cell C0\nrect 1 0 0 10 10\n")?;
     let mut wide = 10i32;
-    for level in 0..24u8 {
-        push_cell(&mut layout, b'B' + level)?;
-        if has_roof && level == 23 {
-            push_rect(&mut layout, 2, [-5, -5, 167_772_165, 15])?;
-        }
-        push_place(&mut layout, b'A' + level, R0, 0, 0)?;
-        push_place(&mut layout, b'A' + level, R0, wide, 0)?;
-        push_end(&mut layout)?;
+    for level in 1..=24i32 {
+        let below = level.wrapping_sub(1);
+        let cell = format!(in alloc;
+            "cell C{level}\nplace C{below} 0 0\nplace C{below} {wide} 0\n"
+        )?;
+        text.push_str(cell.as_str())?;
         wide = wide.wrapping_mul(2);
     }
-    push_last(&mut layout)?;
-    Ok(layout)
+    if has_roof {
+        text.push_str("rect 2 -5 -5 167772165 15\n")?;
+    }
+    stream(alloc, text.as_str())
 }
 
 // A row is one net, and so is it with what covers it, which doesn't walk its squares.

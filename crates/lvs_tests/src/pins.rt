@@ -4,10 +4,9 @@ ghost use Rattle.std.specs.Prelude.{◌≤◌};
 ghost use Rattle.rule_text.specs.Seen.{rules_seen};
 ghost use Rattle.rule_text.specs.Sound.{IsSound};
 
-use crate::gates::{ACTIVE, CROSSED, NMOS, POLY};
+use crate::gates::NMOS;
 use crate::inputs::{Inputs, Kept, read};
-use crate::lettered::Placed::At;
-use crate::lettered::{Drawn, stream_of};
+use crate::layouts::stream;
 use deep_flow::derive_pins;
 use deep_tables::CellPins;
 use job_board::{Crew, OpenGate};
@@ -55,62 +54,72 @@ fn all_pins<R: Threads + Wait + Sync>(
 }
 
 // A layout, its rules, and the nets of its cells.
-struct Row(&'static [Drawn], &'static [u8], &'static str);
+struct Row(&'static str, &'static [u8], &'static str);
 
 static ROWS: [Row; 5] = [
     // The gate stands in the parent: source and drain in the child are its terminals.
     Row(
-        &[
-            Drawn(b'K', &[(ACTIVE, [0, 0, 50, 20])], &[], &[]),
-            Drawn(b'T', &[(POLY, [20, -5, 30, 25])], &[], &[At(b'K', 0, 0)]),
-        ],
+        "cell K
+rect 2 0 0 50 20
+cell T
+rect 3 20 -5 30 25
+place K 0 0
+",
         NMOS,
         "+ + +VSS \n- - - +VSS \n",
     ),
     // Two texts on the drain, one of them on the source too.
     Row(
-        &[Drawn(
-            b'T',
-            &CROSSED,
-            &[
-                (b'S', 100, 100),
-                (b'S', 1000, 100),
-                (b'D', 1000, 100),
-                (b'G', 600, 1550),
-            ],
-            &[],
-        )],
+        "cell T
+rect 2 0 0 1250 1500
+rect 3 500 -100 750 1600
+text 5/1 100 100 S
+text 5/1 1000 100 S
+text 5/1 1000 100 D
+text 5/1 600 1550 G
+",
         NMOS,
         "+G +S +D,S +VSS \n",
     ),
     // Texts name the nets of their own cell alone, and a parent that joins none of them makes no
     // pin of them.
     Row(
-        &[
-            Drawn(b'K', &CROSSED, &[(b'S', 100, 100)], &[]),
-            Drawn(b'T', &[], &[], &[At(b'K', 0, 0)]),
-        ],
+        "cell K
+rect 2 0 0 1250 1500
+rect 3 500 -100 750 1600
+text 5/1 100 100 S
+cell T
+place K 0 0
+",
         NMOS,
         "- +S - +VSS \n- - - +VSS \n",
     ),
     // One parent of two joins the net.
     Row(
-        &[
-            Drawn(b'V', &[(5, [10, 0, 20, 10])], &[], &[]),
-            Drawn(b'A', &[], &[], &[At(b'V', 0, 0)]),
-            Drawn(b'B', &[(5, [0, 0, 10, 10])], &[], &[At(b'V', 0, 0)]),
-            Drawn(b'T', &[], &[], &[At(b'A', 0, 0), At(b'B', 100, 0)]),
-        ],
+        "cell V
+rect 5 10 0 20 10
+cell A
+place V 0 0
+cell B
+rect 5 0 0 10 10
+place V 0 0
+cell T
+place A 0 0
+place B 100 0
+",
         METAL,
         "+ \n- \n- \n- - \n",
     ),
     // The parent only passes it on.
     Row(
-        &[
-            Drawn(b'V', &[(5, [10, 0, 20, 10])], &[], &[]),
-            Drawn(b'A', &[], &[], &[At(b'V', 0, 0)]),
-            Drawn(b'T', &[(5, [0, 0, 10, 10])], &[], &[At(b'A', 0, 0)]),
-        ],
+        "cell V
+rect 5 10 0 20 10
+cell A
+place V 0 0
+cell T
+rect 5 0 0 10 10
+place A 0 0
+",
         METAL,
         "+ \n+ \n- \n",
     ),
@@ -120,7 +129,7 @@ static ROWS: [Row; 5] = [
 fn pins_of_cells(rt: HostRuntime) -> Result<(), Fail> {
     let alloc: Global = rt.alloc();
     for Row(cells, rules, text) in &ROWS {
-        let inputs = read(alloc, &stream_of(alloc, cells)?, rules)?;
+        let inputs = read(alloc, &stream(alloc, cells)?, rules)?;
         for workers in 1..3 {
             let found = all_pins(&rt, alloc, &inputs, workers)?;
             let told = str::from_utf8(&found).unwrap_or("not UTF-8");

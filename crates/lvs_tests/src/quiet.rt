@@ -1,7 +1,7 @@
 //! Runs over a depot and a sink that only count bytes.
 
 use crate::commands::{SHAPES, words_of};
-use crate::streams::stream;
+use crate::layouts::{COMMON, OVERLAP, stream};
 use job_board::OpenGate;
 use lvs_outside::QuietDepot;
 use lvs_run::run_lvs;
@@ -9,8 +9,6 @@ use std::alloc::{AllocError, Global};
 use std::sync::Wait;
 use std::test::Fail;
 use std::thread::Threads;
-
-const RULES: &[u8] = b"a = input(1, 0)\nb = input(2, 0)\nc = a & b\nc.output(10, 0)\n";
 
 // The most bytes of a file that are read.
 const LIMIT: usize = 1 << 28;
@@ -25,7 +23,7 @@ fn counted<R: Threads + Wait + Sync>(
     let words = words_of(alloc, &SHAPES)?;
     let mut depot = QuietDepot::new(alloc);
     depot.lend("l", layout)?;
-    depot.lend("r", RULES)?;
+    depot.lend("r", COMMON.as_bytes())?;
     let mut sink = QuietDepot::new(alloc);
     let status = run_lvs(
         rt,
@@ -42,7 +40,7 @@ fn counted<R: Threads + Wait + Sync>(
 #[test]
 fn common_rectangle_counted(rt: HostRuntime) -> Result<(), Fail> {
     let alloc = rt.alloc();
-    let layout = stream(alloc, &[(1, 0, 0, 10, 10), (2, 5, 5, 15, 15)])?;
+    let layout = stream(alloc, OVERLAP)?;
     assert_eq!(rt; counted(&rt, alloc, &layout)?, (0, 166, 28));
     Ok(())
 }

@@ -2,10 +2,8 @@
 
 ghost use Rattle.std.specs.Prelude.{◌≤◌, ◌<◌, length};
 
-use crate::drawn::Item::{Placed, Rect, Turned};
-use crate::drawn::{Cell, begin, begin_cell, end, end_cell, library, push_placed};
+use crate::layouts::{front, stream};
 use crate::listing::told;
-use crate::streams::{Splice, front, spliced};
 use cell_graph::LinkFault;
 use gds_elements::GdsFault;
 use gds_layout::{Layout, LayoutFault, LayoutReader, read_layout};
@@ -27,15 +25,27 @@ const KEYS: [LayerKey; 2] = [
 ];
 
 /// Two squares in one cell.
-const SQUARES: [Cell; 1] = [Cell("A", &[Rect(1, [0, 0, 10, 10]), Rect(2, [5, 5, 15, 15])])];
+const SQUARES: &str = "cell A
+rect 1 0 0 10 10
+rect 2 5 5 15 15
+";
+
+/// The same, the second with a slanted edge.
+const SLANTED: &str = "cell A
+rect 1 0 0 10 10
+rect 2 5 5 15 15
+change 201 202 10
+";
 
 /// A reference to a cell that isn't there.
-const MISSING: [Cell; 1] = [Cell("A", &[Placed("B", 0, 0)])];
+const MISSING: &str = "cell A
+place B 0 0
+";
 
 /// Each layout's cells, and what is read of them.
-static LAYOUTS: [(&[Cell], &str); 2] = [
+static LAYOUTS: [(&str, &str); 2] = [
     (
-        &SQUARES,
+        SQUARES,
         "unit 1000 top 0
 name 65
 hull 0 0 15 15
@@ -45,16 +55,12 @@ hull 0 0 15 15
     ),
     // Each element's square is that of its origin, one to the right and two up.
     (
-        &[
-            Cell("K", &[Rect(1, [2, 1, 3, 2])]),
-            Cell(
-                "T",
-                &[
-                    Turned("K", 3, 2, [(100, 200), (130, 200), (100, 240)]),
-                    Rect(2, [0, 0, 5, 5]),
-                ],
-            ),
-        ],
+        "cell K
+rect 1 2 1 3 2
+cell T
+array K 100 200 3 2 10,0 0,20 M90
+rect 2 0 0 5 5
+",
         "unit 1000 top 1
 name 75
 hull 2 1 3 2
@@ -107,7 +113,7 @@ fn text_of(alloc: Global, layout: Result<Layout, LayoutFault>) -> Result<String,
 fn read_in_pieces(rt: HostRuntime) -> Result<(), Fail> {
     let alloc = rt.alloc();
     for (cells, wanted) in &LAYOUTS {
-        let stream = library(alloc, cells)?;
+        let stream = stream(alloc, cells)?;
         let whole = text_of(alloc, read_layout(alloc, &stream, None))?;
         assert_eq!(rt; whole.as_str(), *wanted);
         for at in 0..=stream.len() {
@@ -141,12 +147,6 @@ fn place_of(fault: &LayoutFault) -> Option<Place> {
 // The place of an answer's fault.
 fn fault_of<T: Drop>(answer: Result<T, LayoutFault>) -> Option<Place> {
     place_of(&answer.err()?)
-}
-
-// The two squares, the second with a slanted edge.
-fn slanted(alloc: Global) -> Result<Vec<u8>, AllocError> {
-    let straight = library(alloc, &SQUARES)?;
-    spliced(alloc, &straight, &[Splice(201, &[16], 202)])
 }
 
 /// Where each record of the two squares' stream ends.
@@ -183,7 +183,7 @@ fn is_cut(alloc: Global, stream: &[u8], at: usize) -> bool {
 #[test]
 fn cuts_of_the_stream(rt: HostRuntime) -> Result<(), Fail> {
     let alloc = rt.alloc();
-    let squares = library(alloc, &SQUARES)?;
+    let squares = stream(alloc, SQUARES)?;
     assert_eq!(rt; squares.len(), 230);
     for at in 0..230 {
         assert!(rt; is_cut(alloc, &squares, at), "{at}");
@@ -195,8 +195,8 @@ fn cuts_of_the_stream(rt: HostRuntime) -> Result<(), Fail> {
 #[test]
 fn faults_in_pieces(rt: HostRuntime) -> Result<(), Fail> {
     let alloc = rt.alloc();
-    let slanted = slanted(alloc)?;
-    let missing = library(alloc, &MISSING)?;
+    let slanted = stream(alloc, SLANTED)?;
+    let missing = stream(alloc, MISSING)?;
     assert_eq!(rt; missing.len(), 128);
     for size in [1, 2, 3, 1000] {
         let first = fault_of(in_pieces(alloc, front(&slanted, 230), size));
@@ -211,7 +211,7 @@ fn faults_in_pieces(rt: HostRuntime) -> Result<(), Fail> {
 #[test]
 fn told_with_its_record(rt: HostRuntime) -> Result<(), Fail> {
     let alloc = rt.alloc();
-    let slanted = slanted(alloc)?;
+    let slanted = stream(alloc, SLANTED)?;
     for at in 0..=230usize {
         let mut reader = LayoutReader::new(alloc);
         let answer = reader.feed(alloc, front(&slanted, at));
@@ -224,7 +224,7 @@ fn told_with_its_record(rt: HostRuntime) -> Result<(), Fail> {
 #[test]
 fn kept_fault(rt: HostRuntime) -> Result<(), Fail> {
     let alloc = rt.alloc();
-    let slanted = slanted(alloc)?;
+    let slanted = stream(alloc, SLANTED)?;
     assert_eq!(rt; slanted.len(), 230);
     let mut reader = LayoutReader::new(alloc);
     let first = fault_of(reader.feed(alloc, &slanted));
@@ -251,32 +251,15 @@ fn link_of(fault: &LayoutFault) -> (u8, &[u8]) {
 }
 
 /// Cells that can't be linked, the name of the top or nothing, and their fault.
-static UNLINKED: [(&[Cell], &str, u8, &str); 7] = [
-    (&[], "", 24, ""),
-    (&[Cell("A", &[])], "B", 24, ""),
-    (&[Cell("A", &[]), Cell("A", &[])], "", 20, "A"),
-    (&MISSING, "", 21, "B"),
-    (
-        &[
-            Cell("A", &[Placed("B", 0, 0)]),
-            Cell("B", &[Placed("A", 0, 0)]),
-        ],
-        "",
-        22,
-        "A",
-    ),
-    (&[Cell("A", &[]), Cell("B", &[])], "", 23, "A"),
+static UNLINKED: [(&str, &str, u8, &str); 7] = [
+    ("", "", 24, ""),
+    ("cell A\n", "B", 24, ""),
+    ("cell A\ncell A\n", "", 20, "A"),
+    (MISSING, "", 21, "B"),
+    ("cell A\nplace B 0 0\ncell B\nplace A 0 0\n", "", 22, "A"),
+    ("cell A\ncell B\n", "", 23, "A"),
     // A cell that stands there twice is told before a missing one.
-    (
-        &[
-            Cell("A", &[Placed("B", 0, 0)]),
-            Cell("C", &[]),
-            Cell("C", &[]),
-        ],
-        "",
-        20,
-        "C",
-    ),
+    ("cell A\nplace B 0 0\ncell C\ncell C\n", "", 20, "C"),
 ];
 
 // Whether the answer is this fault of the links.
@@ -309,7 +292,7 @@ fn ended(
 fn links_at_the_end(rt: HostRuntime) -> Result<(), Fail> {
     let alloc = rt.alloc();
     for (cells, top, number, name) in &UNLINKED {
-        let stream = library(alloc, cells)?;
+        let stream = stream(alloc, cells)?;
         for size in [1, 1000] {
             let answer = ended(alloc, &stream, size, top)?;
             assert!(rt; is_fault(answer, *number, name), "{number} {size}");
@@ -318,28 +301,14 @@ fn links_at_the_end(rt: HostRuntime) -> Result<(), Fail> {
     Ok(())
 }
 
-fn push_empty(alloc: Global, out: &mut Vec<u8>, number: u32) -> Result<(), AllocError> {
-    begin_cell(alloc, out, format!(in alloc; "C{number}")?.as_str())?;
-    end_cell(out)
-}
-
-fn push_once(alloc: Global, out: &mut Vec<u8>, number: u32) -> Result<(), AllocError> {
-    push_placed(alloc, out, format!(in alloc; "C{number}")?.as_str(), 0, 0)
-}
-
 // Cells by their numbers, and a cell that places each of them once.
 fn placed_once(alloc: Global, cells: u32) -> Result<Vec<u8>, AllocError> {
-    let mut out = begin(alloc)?;
+    let mut text = format!(in alloc; "cell C0\nchain C {}\ncell TOP\n", cells.saturating_sub(1))?;
     for number in 0..cells {
-        push_empty(alloc, &mut out, number)?;
+        let place = format!(in alloc; "place C{number} 0 0\n")?;
+        text.push_str(place.as_str())?;
     }
-    begin_cell(alloc, &mut out, "TOP")?;
-    for number in 0..cells {
-        push_once(alloc, &mut out, number)?;
-    }
-    end_cell(&mut out)?;
-    end(&mut out)?;
-    Ok(out)
+    stream(alloc, text.as_str())
 }
 
 // As many cells as a layout may have, and one more.

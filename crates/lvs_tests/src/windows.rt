@@ -1,7 +1,6 @@
 //! What windows find: in lists of rectangles, in a cell's layers and among its references.
 
-use crate::drawn::Item::{Placed, Rect as Shape, Turned};
-use crate::drawn::{Cell, Item, begin, end, library, push_cell};
+use crate::layouts::stream;
 use gds_layout::{Layout, read_layout};
 use geo_base::{LayerKey, Rect};
 use net_names::Name;
@@ -116,14 +115,11 @@ const SECOND: LayerKey = LayerKey {
 };
 
 /// One square on one layer, and two on another with a gap between them.
-const DRAWN: [Cell; 1] = [Cell(
-    "A",
-    &[
-        Shape(1, [0, 0, 10, 10]),
-        Shape(2, [20, 0, 30, 10]),
-        Shape(2, [5, 0, 15, 10]),
-    ],
-)];
+const DRAWN: &str = "cell A
+rect 1 0 0 10 10
+rect 2 20 0 30 10
+rect 2 5 0 15 10
+";
 
 /// A layer, a window, and the positions in the layer's list that it finds.
 static OWN: [(LayerKey, Corners, &[u32]); 7] = [
@@ -158,7 +154,7 @@ fn own_found(
 #[test]
 fn own_squares(rt: HostRuntime) -> Result<(), Fail> {
     let alloc = rt.alloc();
-    let layout = read_layout(alloc, &library(alloc, &DRAWN)?, None)?;
+    let layout = read_layout(alloc, &stream(alloc, DRAWN)?, None)?;
     for (key, window, wanted) in &OWN {
         let found = own_found(alloc, &layout, *key, *window)?;
         assert_eq!(rt; found.as_slice(), *wanted, "{key:?} {window:?}");
@@ -167,48 +163,45 @@ fn own_squares(rt: HostRuntime) -> Result<(), Fail> {
 }
 
 /// A square, a square off the origin, a cell without any, and one that places the latter.
-static CHILDREN: [Cell; 4] = [
-    Cell("K", &[Shape(1, [0, 0, 10, 10])]),
-    Cell("S", &[Shape(1, [2, 1, 3, 2])]),
-    Cell("E", &[]),
-    Cell("F", &[Placed("E", 5, 5)]),
-];
+const CHILDREN: &str = "cell K
+rect 1 0 0 10 10
+cell S
+rect 1 2 1 3 2
+cell E
+cell F
+place E 5 5
+";
 
 /// What the top places, a window, and the positions of the references that it finds.
-static PLACES: [(&[Item], Corners, &[u32]); 12] = [
-    (&TWICE, [9, 0, 101, 1], &[0, 1]),
-    (&TWICE, [5, 0, 15, 10], &[0]),
-    (&TWICE, [10, 0, 100, 10], &[]),
+static PLACES: [(&str, Corners, &[u32]); 12] = [
+    (TWICE, [9, 0, 101, 1], &[0, 1]),
+    (TWICE, [5, 0, 15, 10], &[0]),
+    (TWICE, [10, 0, 100, 10], &[]),
     // By what is placed and not by the origin.
-    (&[Placed("S", 0, 0)], [0, 0, 1, 1], &[]),
-    (&[Placed("S", 0, 0)], [2, 1, 3, 2], &[0]),
+    ("place S 0 0\n", [0, 0, 1, 1], &[]),
+    ("place S 0 0\n", [2, 1, 3, 2], &[0]),
     // An array's elements lie in (101, 202) to (122, 223): the first, the last, between them.
-    (&ARRAY, [101, 202, 102, 203], &[0]),
-    (&ARRAY, [121, 222, 122, 223], &[0]),
-    (&ARRAY, [105, 205, 106, 206], &[0]),
+    (ARRAY, [101, 202, 102, 203], &[0]),
+    (ARRAY, [121, 222, 122, 223], &[0]),
+    (ARRAY, [105, 205, 106, 206], &[0]),
     // Its edges alone.
-    (&ARRAY, [122, 202, 130, 223], &[]),
-    (&ARRAY, [0, 0, 101, 300], &[]),
-    (&ARRAY, [0, 223, 300, 230], &[]),
+    (ARRAY, [122, 202, 130, 223], &[]),
+    (ARRAY, [0, 0, 101, 300], &[]),
+    (ARRAY, [0, 223, 300, 230], &[]),
     // Where nothing is placed, nothing is found.
-    (&EMPTY, [-1000, -1000, 1000, 1000], &[1]),
+    (EMPTY, [-1000, -1000, 1000, 1000], &[1]),
 ];
 
-const TWICE: [Item; 2] = [Placed("K", 0, 0), Placed("K", 100, 0)];
+const TWICE: &str = "place K 0 0\nplace K 100 0\n";
 
-const ARRAY: [Item; 1] = [Turned("S", 3, 2, [(100, 200), (130, 200), (100, 240)])];
+const ARRAY: &str = "array S 100 200 3 2 10,0 0,20 M90\n";
 
-const EMPTY: [Item; 3] = [Placed("E", 0, 0), Placed("K", 0, 0), Placed("F", 0, 0)];
+const EMPTY: &str = "place E 0 0\nplace K 0 0\nplace F 0 0\n";
 
-// The stream of these cells and of a top with these items.
-fn with_top(alloc: Global, items: &[Item]) -> Result<Vec<u8>, AllocError> {
-    let mut out = begin(alloc)?;
-    for Cell(name, items) in &CHILDREN {
-        push_cell(alloc, &mut out, name, items)?;
-    }
-    push_cell(alloc, &mut out, "T", items)?;
-    end(&mut out)?;
-    Ok(out)
+// The stream of these cells and of a top with these lines.
+fn with_top(alloc: Global, lines: &str) -> Result<Vec<u8>, AllocError> {
+    let text = format!(in alloc; "{CHILDREN}cell T\n{lines}")?;
+    stream(alloc, text.as_str())
 }
 
 fn places_found(alloc: Global, layout: &Layout, window: Corners) -> Result<Vec<u32>, AllocError> {
@@ -221,8 +214,8 @@ fn places_found(alloc: Global, layout: &Layout, window: Corners) -> Result<Vec<u
 fn references(rt: HostRuntime) -> Result<(), Fail> {
     let alloc = rt.alloc();
     let top = Name::from_bytes(alloc, b"T")?;
-    for (items, window, wanted) in &PLACES {
-        let layout = read_layout(alloc, &with_top(alloc, items)?, top.as_ref())?;
+    for (lines, window, wanted) in &PLACES {
+        let layout = read_layout(alloc, &with_top(alloc, lines)?, top.as_ref())?;
         let found = places_found(alloc, &layout, *window)?;
         assert_eq!(rt; found.as_slice(), *wanted, "{window:?}");
     }

@@ -6,7 +6,7 @@ use Rattle.composed_laws.specs.Answered.{Asked, pair_in}
 use Rattle.pair_jobs.specs.Answers.{AreAllAnswers, answer_at}
 use Rattle.refine_match.specs.Matching.{HaveUnevenDevices}
 
--- a pair differs in which of some class, length and width one circuit has more devices than the
+-- a pair differs in which of some kind, class and sizes one circuit has more devices than the
 -- other, whatever the called pairs are
 abbrev pub UnevenDevicesLaw : Type 0
 UnevenDevicesLaw = (left right : Netlist) (asked : Asked) (answers : List Answer)

@@ -2,30 +2,29 @@
 use Rattle.std.proofs.Common.{◌≡◌, ℕ, suc, ◌+◌, List, [], ◌∷◌, ◌++◌, map, length, slice_index, slice_get, Option, Some, None, refl, sym, ◌∙◌, ap, ap₂, arith}
 use Rattle.std.specs.List.{flat_map}
 use Rattle.std.proofs.lemmas.List.Concat.{flat_map-append}
+use Rattle.plain_netlist.specs.Devices.{Ends, NoEnds, Both}
 use Rattle.plain_netlist.specs.Netlist.{DeviceRow, CallRow, Circuit}
-use Rattle.round_laws.specs.Web.{Port as PlainPort, Channel, Gate, Bulk, Pin, End as PlainEnd}
+use Rattle.round_laws.specs.Web.{Port as PlainPort, EitherEnd, Other, Pin, End as PlainEnd}
 use Rattle.round_laws.specs.Nodes.{Node, Side, Layout, Schematic, Net, Device, Call}
-use Rattle.match_laws.specs.Circuits.{Pair, circuit_of, numbers_from, node, end_at, right_pin, device_ends, call_ends, terminals_of, owners}
+use Rattle.match_laws.specs.Circuits.{Pair, circuit_of, numbers_from, node, end_at, right_pin, other_ends, terminal_ends, call_ends, terminals_of, owners}
 use Rattle.match_laws.proofs.Images.{device_terms, call_terms}
 use Rattle.match_graph.specs.declared.graph.Port.{Port}
 use Rattle.match_graph.specs.declared.graph.Port.TheVariants as port
 use Rattle.match_graph.specs.declared.edges.Edge.{Edge}
 use Rattle.match_graph.specs.Numbering.{first_of_side, index_of}
 use Rattle.match_graph.specs.Graph.{plain_port, port_name}
-use Rattle.match_graph.specs.Edges.{edge, device_edges, call_edges, pin_in, pins_on, edges_from, side_edges, pair_edges}
+use Rattle.match_graph.specs.Edges.{edge, device_edges, other_edges, terminal_edges, call_edges, pin_in, pins_on, edges_from, side_edges, pair_edges}
 use Rattle.match_graph.proofs.Placed.{map_map}
 
 -- a kind of terminal as the graph has it
 abbrev pub port_of : PlainPort → Port
-port_of Channel = port.Channel
-port_of Gate = port.Gate
-port_of Bulk = port.Bulk
+port_of EitherEnd = port.EitherEnd
+port_of (Other k) = port.Other k
 port_of (Pin pair i) = port.Pin i
 
 pub named : (q : PlainPort) → plain_port (port_of q) ≡ port_name q
-named Channel = refl
-named Gate = refl
-named Bulk = refl
+named EitherEnd = refl
+named (Other k) = refl
 named (Pin pair i) = refl
 
 -- the edge of a terminal of a node
@@ -57,16 +56,21 @@ flat_map_map {X} {Y} {Z} g h (x ∷ xs) = ap (λ (zs : List Z). g (h x) ++ zs) (
 net_index : (p : Pair) (side : Side) (k : ℕ) → first_of_side p side + k ≡ index_of p (node side Net k)
 net_index p side k = omega arith
 
-four_edges : (p : Pair) (side : Side) (o : Node) (owner : ℕ) (d : DeviceRow) → index_of p o ≡ owner → map (edge_of p o) (device_ends side d) ≡ device_edges (first_of_side p side) owner d
-four_edges p side o owner d e =
-    let s = sym (net_index p side d.source) in
-    let g = sym (net_index p side d.gate) in
-    let r = sym (net_index p side d.drain) in
-    let b = sym (net_index p side d.bulk) in
-    ap₂ (λ (x y : Edge). x ∷ y ∷ edge (index_of p o) port.Channel (index_of p (node side Net d.drain)) ∷ edge (index_of p o) port.Bulk (index_of p (node side Net d.bulk)) ∷ [])
-    (ap₂ (λ (n m : ℕ). edge n port.Channel m) e s) (ap₂ (λ (n m : ℕ). edge n port.Gate m) e g)
-    ∙ ap₂ (λ (x y : Edge). edge owner port.Channel (first_of_side p side + d.source) ∷ edge owner port.Gate (first_of_side p side + d.gate) ∷ x ∷ y ∷ [])
-    (ap₂ (λ (n m : ℕ). edge n port.Channel m) e r) (ap₂ (λ (n m : ℕ). edge n port.Bulk m) e b)
+other_same : (p : Pair) (side : Side) (o : Node) (owner place : ℕ) (ns : List ℕ) → index_of p o ≡ owner → map (edge_of p o) (other_ends side place ns) ≡ other_edges (first_of_side p side) owner place ns
+other_same p side o owner place [] e = refl
+other_same p side o owner place (n ∷ ns) e =
+    ap₂ (λ (x : Edge) (xs : List Edge). x ∷ xs) (ap₂ (λ (m k : ℕ). edge m (port.Other place) k) e (sym (net_index p side n))) (other_same p side o owner (suc place) ns e)
+
+end_same : (p : Pair) (side : Side) (o : Node) (owner n : ℕ) → index_of p o ≡ owner → edge (index_of p o) port.EitherEnd (index_of p (node side Net n)) ≡ edge owner port.EitherEnd (first_of_side p side + n)
+end_same p side o owner n e = ap₂ (λ (m k : ℕ). edge m port.EitherEnd k) e (sym (net_index p side n))
+
+terminal_same : (p : Pair) (side : Side) (o : Node) (owner : ℕ) (ends : Ends ℕ) (ns : List ℕ) → index_of p o ≡ owner → map (edge_of p o) (terminal_ends side ends ns) ≡ terminal_edges (first_of_side p side) owner ends ns
+terminal_same p side o owner NoEnds ns e = other_same p side o owner 0 ns e
+terminal_same p side o owner (Both a b) [] e = ap₂ (λ (x y : Edge). x ∷ y ∷ []) (end_same p side o owner b e) (end_same p side o owner a e)
+terminal_same p side o owner (Both a b) (n ∷ ns) e =
+    ap₂ (λ (x : Edge) (xs : List Edge). x ∷ xs) (end_same p side o owner b e)
+    (ap₂ (λ (x : Edge) (xs : List Edge). x ∷ xs) (ap₂ (λ (m k : ℕ). edge m (port.Other 0) k) e (sym (net_index p side n)))
+    (ap₂ (λ (x : Edge) (xs : List Edge). x ∷ xs) (end_same p side o owner a e) (other_same p side o owner 1 ns e)))
 
 pin_same : (p : Pair) (side : Side) (pair i : ℕ) → right_pin p side pair i ≡ pin_in (pins_on p.children side pair) i
 pin_same p Layout pair i = of_list (p.children pair)
@@ -98,7 +102,7 @@ side_is p side =
     let z : 0 + k ≡ k = omega arith in
     ap (λ (n : ℕ). owner_edges p (node side Device n)) z
     ∙ (ap (λ (o : Option DeviceRow). map (edge_of p (node side Device k)) (device_terms side o)) g
-    ∙ four_edges p side (node side Device k) (first_of_side p side + length (circuit_of p side).nets + k) d refl))
+    ∙ terminal_same p side (node side Device k) (first_of_side p side + length (circuit_of p side).nets + k) d.ends d.others refl))
     ∙ sym (flat_map_map (owner_edges p) (node side Device) (numbers_from 0 (length (circuit_of p side).devices))))
     (rows_edges (call_edges p.children side (first_of_side p side)) (λ k. owner_edges p (node side Call k)) (first_of_side p side + length (circuit_of p side).nets + length (circuit_of p side).devices) 0 (circuit_of p side).calls
     (λ k d g.

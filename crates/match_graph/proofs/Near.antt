@@ -14,7 +14,7 @@ use Rattle.round_laws.proofs.Stable.{in_either}
 use Rattle.part_laws.specs.Renamed.{renamed_end}
 use Rattle.match_laws.specs.Circuits.{Pair, circuit_of, numbers_from, node, end_at, right_pin, device_ends, call_ends, terminals, terminals_of, owners, nodes, same_node, ends_on, near_at, web_of, IsFitting}
 use Rattle.match_laws.proofs.Sums.{sum_same, sum-map, sum-flat, in_map, number_once}
-use Rattle.match_laws.proofs.Images.{size, seen, in_device, node_decides, nodes_there, device_terms, call_terms, terminals_listed, sum-turned}
+use Rattle.match_laws.proofs.Images.{size, seen, device_net, node_decides, nodes_there, device_terms, call_terms, terminals_listed, sum-turned}
 use Rattle.match_graph.specs.declared.graph.End.{End}
 use Rattle.match_graph.specs.declared.edges.Edge.{Edge}
 use Rattle.match_graph.specs.Numbering.{nodes_in, index_of}
@@ -125,7 +125,7 @@ terminal_net p side Device k e i = elim (seen (slice_get (circuit_of p side).dev
   | inl none ↦ absurd (subst (λ (o : Option DeviceRow). IsListed e (device_terms side o)) none i)
   | inr some ↦
       let j : IsListed e (device_ends side some.0) = subst (λ (o : Option DeviceRow). IsListed e (device_terms side o)) some.1 i in
-      ap (λ (x : Node). x.kind) (in_device side some.0 e j)
+      ap (λ (x : Node). x.kind) (device_net side some.0 e j).net
 ]
 terminal_net p side Call k e i = elim (seen (slice_get (circuit_of p side).calls k)) [
   | inl none ↦ absurd (subst (λ (o : Option CallRow). IsListed e (call_terms p side o)) none i)

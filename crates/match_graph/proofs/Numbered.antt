@@ -1,5 +1,5 @@
 -- Numbers for what the first round goes by, one node after another.
-use Rattle.std.proofs.Common.{◌≡◌, ℕ, zero, suc, ◌+◌, ◌<◌, ◌≤◌, ◌==◌, Bool, false, cond, List, [], ◌∷◌, ◌++◌, length, map, take, slice_get, slice_index, get_or, Option, Some, None, refl, sym, subst, ◌∙◌, ap, ap₂, arith, append_assoc, inl, inr}
+use Rattle.std.proofs.Common.{◌≡◌, ℕ, zero, suc, ◌+◌, ◌<◌, ◌≤◌, ◌==◌, ◌&&◌, Bool, bytes_eq, false, cond, List, [], ◌∷◌, ◌++◌, length, map, take, slice_get, slice_index, get_or, Option, Some, None, refl, sym, subst, ◌∙◌, ap, ap₂, arith, append_assoc, inl, inr}
 use Rattle.base_laws.proofs.Tests.{same_truth}
 use Rattle.std.specs.HashMap.{get, hash_map_len}
 use Rattle.std.specs.Bool.{Decides}
@@ -16,19 +16,36 @@ use Rattle.match_graph.specs.declared.kinds.Own.{Own}
 use Rattle.match_graph.specs.declared.kinds.Own.TheVariants.{Net, Device, Call}
 use Rattle.match_graph.specs.contracts.kinds.OwnPartialEq.TheImpl.{eq-value}
 use Rattle.plain_netlist.specs.Netlist.{Circuit}
+use Rattle.plain_netlist.specs.Kinds.{same_device_kind}
+use Rattle.plain_netlist.specs.declared.kinds.DeviceKind.{DeviceKind}
+use Rattle.plain_netlist.specs.declared.kinds.DeviceKind.TheVariants.{Mos4, ResistorWithBulk, Diode}
+use Rattle.plain_netlist.specs.contracts.kinds.DeviceKindPartialEq.TheImpl.{eq-value as same}
+use Rattle.std.proofs.Math.Bool.{and-true}
 use Rattle.match_graph.specs.Kinds.{plain_own, IsNumbering, AreKindsOf, Adds, ArePinNames, name_in, net_own, named_owns, device_own, call_own, circuit_owns}
 
--- the derived test
+-- the derived tests
+kind_is : (k j : DeviceKind) → same.it k j ≡ same_device_kind k j
+kind_is Mos4 Mos4 = refl
+kind_is Mos4 ResistorWithBulk = refl
+kind_is Mos4 Diode = refl
+kind_is ResistorWithBulk Mos4 = refl
+kind_is ResistorWithBulk ResistorWithBulk = refl
+kind_is ResistorWithBulk Diode = refl
+kind_is Diode Mos4 = refl
+kind_is Diode ResistorWithBulk = refl
+kind_is Diode Diode = refl
+
 same_is : (q r : Own) → eq-value.it q r ≡ same_own (plain_own q) (plain_own r)
 same_is (Net a x) (Net b y) = refl
-same_is (Device a l w) (Device b m v) = refl
+same_is (Device k a l w) (Device j b m v) =
+    ap₂ (λ (s t : Bool). s && (bytes_eq a.now b.now && ((l == m) && t))) (kind_is k j) (sym (and-true (w == v)))
 same_is (Call a) (Call b) = refl
-same_is (Net a x) (Device b m v) = refl
+same_is (Net a x) (Device j b m v) = refl
 same_is (Net a x) (Call b) = refl
-same_is (Device a l w) (Net b x) = refl
-same_is (Device a l w) (Call b) = refl
+same_is (Device k a l w) (Net b x) = refl
+same_is (Device k a l w) (Call b) = refl
 same_is (Call a) (Net b x) = refl
-same_is (Call a) (Device b m v) = refl
+same_is (Call a) (Device j b m v) = refl
 
 pub same_decides : (q r : Own) → Decides (eq-value.it q r) (plain_own q ≡ plain_own r)
 same_decides q r = subst (λ (b : Bool). Decides b (plain_own q ≡ plain_own r)) (sym (same_is q r)) (own_decides (plain_own q) (plain_own r))

@@ -4,13 +4,14 @@ use Rattle.base_laws.proofs.Tests.{turned_test, same_truth}
 use Rattle.std.proofs.lemmas.Bool.{cases_Bool}
 use Rattle.std.proofs.lemmas.List.{length-map, get_or_append_left, get_or-append_right}
 use Rattle.std.proofs.lemmas.Bool.Decides.{Decides-eqb}
+use Rattle.plain_netlist.specs.Devices.{Ends, NoEnds, Both}
 use Rattle.plain_netlist.specs.Netlist.{DeviceRow, CallRow, Circuit}
 use Rattle.plain_netlist.specs.Lists.{IsListed}
-use Rattle.round_laws.specs.Web.{Port as PlainPort, same_port, Channel, Gate, Bulk, Pin, End as PlainEnd, IsNode}
+use Rattle.round_laws.specs.Web.{Port as PlainPort, same_port, EitherEnd, Other, Pin, End as PlainEnd, IsNode}
 use Rattle.round_laws.specs.Nodes.{Node, Side, Layout, Schematic, Kind, Net, Device, Call}
 use Rattle.round_laws.specs.Colours.{ends_of}
 use Rattle.round_laws.proofs.Stable.{in_either}
-use Rattle.match_laws.specs.Circuits.{Pair, is_pin, pin_name, circuit_of, numbers_from, node, end_at, right_pin, device_ends, call_ends, terminals, terminals_of, owners, nodes, same_node, ends_on, near_at, web_of, IsFitting, Own, OfNet, OfCall, OfNone, same_own, own_at, own}
+use Rattle.match_laws.specs.Circuits.{Pair, is_pin, pin_name, circuit_of, numbers_from, node, end_at, right_pin, other_ends, terminal_ends, call_ends, terminals, terminals_of, owners, nodes, same_node, ends_on, near_at, web_of, IsFitting, Own, OfNet, OfCall, OfNone, same_own, own_at, own}
 use Rattle.match_laws.proofs.Sums.{sum_same, sum-map, sum-flat, in_map}
 use Rattle.match_laws.proofs.Images.{size, seen, in_flat, in_turned, device_terms, call_terms, own_decides}
 use Rattle.match_graph.specs.declared.graph.End.{End}
@@ -54,12 +55,12 @@ side_end p Schematic = omega arith
 pub between_nodes : (p : Pair) → IsFitting p Layout → IsFitting p Schematic → AreBetween (pair_edges p) (nodes_in p.left + nodes_in p.right)
 between_nodes p fl fr = record {
   owner = λ i l.
-      let s = sided p fl fr (edge_at (pair_edges p) i) (listed_at (pair_edges p) i (edge 0 port.Channel 0) l) in
+      let s = sided p fl fr (edge_at (pair_edges p) i) (listed_at (pair_edges p) i (edge 0 port.EitherEnd 0) l) in
       let e = side_end p s.0 in
       let t = s.1.owner_to in
       omega arith;
   net = λ i l.
-      let s = sided p fl fr (edge_at (pair_edges p) i) (listed_at (pair_edges p) i (edge 0 port.Channel 0) l) in
+      let s = sided p fl fr (edge_at (pair_edges p) i) (listed_at (pair_edges p) i (edge 0 port.EitherEnd 0) l) in
       let e = side_end p s.0 in
       let t = s.1.net_to in
       omega arith;
@@ -247,23 +248,32 @@ alike_same p kinds h a b i j =
     (λ t. (own_decides (own p a) (own p b)).1 (sym (own_of p a i) ∙ (s.0 ((Decides-eqb (slice_index kinds (index_of p a)) (slice_index kinds (index_of p b))).0 t) ∙ own_of p b j)))
     (λ t. (Decides-eqb (slice_index kinds (index_of p a)) (slice_index kinds (index_of p b))).1 (s.1 (own_of p a i ∙ ((own_decides (own p a) (own p b)).0 t ∙ sym (own_of p b j)))))
 
+-- no terminal of a device is a pin
+no_other_pin : (side : Side) (place : ℕ) (ns : List ℕ) (e : PlainEnd Node) (q i : ℕ) → IsListed e (other_ends side place ns) → e.port ≡ Pin q i → ⊥
+no_other_pin side place [] e q i l is = l
+no_other_pin side place (n ∷ ns) e q i (inl s) is = let x : Other place ≡ Pin q i = ap (λ (x : PlainEnd Node). x.port) (sym s) ∙ is in cc
+no_other_pin side place (n ∷ ns) e q i (inr l) is = no_other_pin side (suc place) ns e q i l is
+
+end_no_pin : (e : PlainEnd Node) (n : Node) (q i : ℕ) → e ≡ end_at EitherEnd n → e.port ≡ Pin q i → ⊥
+end_no_pin e n q i s is = let x : EitherEnd ≡ Pin q i = ap (λ (x : PlainEnd Node). x.port) (sym s) ∙ is in cc
+
+no_pin : (side : Side) (ends : Ends ℕ) (ns : List ℕ) (e : PlainEnd Node) (q i : ℕ) → IsListed e (terminal_ends side ends ns) → e.port ≡ Pin q i → ⊥
+no_pin side NoEnds ns e q i l is = no_other_pin side 0 ns e q i l is
+no_pin side (Both a b) [] e q i (inl s) is = end_no_pin e (node side Net b) q i s is
+no_pin side (Both a b) [] e q i (inr (inl s)) is = end_no_pin e (node side Net a) q i s is
+no_pin side (Both a b) [] e q i (inr (inr l)) is = l
+no_pin side (Both a b) (n ∷ ns) e q i (inl s) is = end_no_pin e (node side Net b) q i s is
+no_pin side (Both a b) (n ∷ ns) e q i (inr (inl s)) is = no_other_pin side 0 (n ∷ []) e q i (inl s) is
+no_pin side (Both a b) (n ∷ ns) e q i (inr (inr (inl s))) is = end_no_pin e (node side Net a) q i s is
+no_pin side (Both a b) (n ∷ ns) e q i (inr (inr (inr l))) is = no_other_pin side 1 ns e q i l is
+
 -- pins of one number at nodes that look alike are of one pair
 terminal_pin : (p : Pair) (side : Side) (kind : Kind) (k : ℕ) (e : PlainEnd Node) (q i : ℕ) → IsListed e (terminals p side kind k) → e.port ≡ Pin q i → own_at p side kind k ≡ OfCall q
 terminal_pin p side Net k e q i l is = absurd l
 terminal_pin p side Device k e q i l is = elim (seen (slice_get (circuit_of p side).devices k)) [
   | inl none ↦ absurd (subst (λ (o : Option DeviceRow). IsListed e (device_terms side o)) none l)
-  | inr some ↦ absurd (no_pin side some.0 e q i (subst (λ (o : Option DeviceRow). IsListed e (device_terms side o)) some.1 l) is)
+  | inr some ↦ absurd (no_pin side some.0.ends some.0.others e q i (subst (λ (o : Option DeviceRow). IsListed e (device_terms side o)) some.1 l) is)
 ]
-  where
-    other : (e f : PlainEnd Node) (q i : ℕ) → e ≡ f → e.port ≡ Pin q i → f.port ≡ Pin q i
-    other e f q i s is = ap (λ (x : PlainEnd Node). x.port) (sym s) ∙ is
-
-    no_pin : (side : Side) (d : DeviceRow) (e : PlainEnd Node) (q i : ℕ) → IsListed e (device_ends side d) → e.port ≡ Pin q i → ⊥
-    no_pin side d e q i (inl s) is = let x : Channel ≡ Pin q i = ap (λ (x : PlainEnd Node). x.port) (sym s) ∙ is in cc
-    no_pin side d e q i (inr (inl s)) is = let x : Gate ≡ Pin q i = ap (λ (x : PlainEnd Node). x.port) (sym s) ∙ is in cc
-    no_pin side d e q i (inr (inr (inl s))) is = let x : Channel ≡ Pin q i = ap (λ (x : PlainEnd Node). x.port) (sym s) ∙ is in cc
-    no_pin side d e q i (inr (inr (inr (inl s)))) is = let x : Bulk ≡ Pin q i = ap (λ (x : PlainEnd Node). x.port) (sym s) ∙ is in cc
-    no_pin side d e q i (inr (inr (inr (inr s)))) is = s
 terminal_pin p side Call k e q i l is = elim (seen (slice_get (circuit_of p side).calls k)) [
   | inl none ↦ absurd (subst (λ (o : Option CallRow). IsListed e (call_terms p side o)) none l)
   | inr some ↦
@@ -310,23 +320,16 @@ pub ports_same : (p : Pair) (a b : Node) → same_own (own p a) (own p b) ≡ tr
 ports_same p a b s d e l m t is = by_port d.port e.port refl refl is
   where
     by_port : (u v : PlainPort) → d.port ≡ u → e.port ≡ v → port_name u ≡ port_name v → u ≡ v
-    by_port Channel Channel f g h = refl
-    by_port Gate Gate f g h = refl
-    by_port Bulk Bulk f g h = refl
+    by_port EitherEnd EitherEnd f g h = refl
+    by_port (Other i) (Other j) f g h = h
     by_port (Pin q i) (Pin r j) f g h =
         let k : i ≡ j = cc in
         let o : q ≡ r = pairs_same p a b d e q r ((own_decides (own p a) (own p b)).0 s) ((own_decides (own p d.node) (own p e.node)).0 t)
         (pin_in_near p a.side a.kind a.number d q i l f) (pin_in_near p b.side b.kind b.number e r j m g) in
         ap₂ Pin o k
-    by_port Channel Gate f g h = absurd cc
-    by_port Channel Bulk f g h = absurd cc
-    by_port Channel (Pin r j) f g h = absurd cc
-    by_port Gate Channel f g h = absurd cc
-    by_port Gate Bulk f g h = absurd cc
-    by_port Gate (Pin r j) f g h = absurd cc
-    by_port Bulk Channel f g h = absurd cc
-    by_port Bulk Gate f g h = absurd cc
-    by_port Bulk (Pin r j) f g h = absurd cc
-    by_port (Pin q i) Channel f g h = absurd cc
-    by_port (Pin q i) Gate f g h = absurd cc
-    by_port (Pin q i) Bulk f g h = absurd cc
+    by_port EitherEnd (Other j) f g h = absurd cc
+    by_port EitherEnd (Pin r j) f g h = absurd cc
+    by_port (Other i) EitherEnd f g h = absurd cc
+    by_port (Other i) (Pin r j) f g h = absurd cc
+    by_port (Pin q i) EitherEnd f g h = absurd cc
+    by_port (Pin q i) (Other j) f g h = absurd cc

@@ -2,6 +2,7 @@
 use Rattle.std.specs.Prelude.{◌≡◌, ◌<◌, ℕ, ◌+◌, suc, List, [], ◌∷◌, ◌++◌, length, map, slice_index}
 use Rattle.std.specs.Prelude.{Option, Some, None}
 use Rattle.std.specs.Borrow.{Bor}
+use Rattle.plain_netlist.specs.Devices.{Ends, NoEnds, Both}
 use Rattle.plain_netlist.specs.Netlist.{DeviceRow, CallRow, Circuit}
 use Rattle.round_laws.specs.Nodes.{Side, Layout, Schematic}
 use Rattle.match_laws.specs.Circuits.{Pair, numbers_from}
@@ -13,11 +14,24 @@ use Rattle.match_graph.specs.declared.edges.Edge.{Edge}
 abbrev pub edge : ℕ → Port → ℕ → Edge
 edge owner port net = record { owner = owner; port = port; net = net }
 
--- the terminals of a device, where the first net of its circuit is this node
+-- the terminals that have a place of their own, from this place on, where the first net of the
+-- circuit is this node
+abbrev pub other_edges : ℕ → ℕ → ℕ → List ℕ → List Edge
+other_edges first owner place [] = []
+other_edges first owner place (n ∷ ns) =
+    edge owner (port.Other place) (first + n) ∷ other_edges first owner (suc place) ns
+
+-- the terminals of a device in the order of its nets
+abbrev pub terminal_edges : ℕ → ℕ → Ends ℕ → List ℕ → List Edge
+terminal_edges first owner NoEnds others = other_edges first owner 0 others
+terminal_edges first owner (Both a b) [] =
+    edge owner port.EitherEnd (first + b) ∷ edge owner port.EitherEnd (first + a) ∷ []
+terminal_edges first owner (Both a b) (n ∷ ns) =
+    edge owner port.EitherEnd (first + b) ∷ edge owner (port.Other 0) (first + n)
+    ∷ edge owner port.EitherEnd (first + a) ∷ other_edges first owner 1 ns
+
 abbrev pub device_edges : ℕ → ℕ → DeviceRow → List Edge
-device_edges first owner d = edge owner port.Channel (first + d.source)
-    ∷ edge owner port.Gate (first + d.gate) ∷ edge owner port.Channel (first + d.drain)
-    ∷ edge owner port.Bulk (first + d.bulk) ∷ []
+device_edges first owner d = terminal_edges first owner d.ends d.others
 
 -- the right pin that stands for pin i of a called pair, where this is its list
 abbrev pub pin_in : Option (List ℕ) → ℕ → ℕ

@@ -1,7 +1,7 @@
 -- Graphs in flat arrays.
 use Rattle.std.specs.Prelude.{◌≡◌, ◌<◌, ◌≤◌, ◌+◌, ◌-◌, ◌==◌, ℕ, List, length, map, slice_index}
 use Rattle.std.specs.Prelude.{slice_range, nat_eq}
-use Rattle.round_laws.specs.Web.{Port as PlainPort, Channel, Gate, Bulk, Pin, End as PlainEnd, Web}
+use Rattle.round_laws.specs.Web.{Port as PlainPort, EitherEnd, Other, Pin, End as PlainEnd, Web}
 use Rattle.round_laws.specs.Web.{IsWeb, IsNode}
 use Rattle.round_laws.specs.Nodes.{Node}
 use Rattle.round_laws.specs.Colours.{ends_of}
@@ -15,9 +15,8 @@ use Rattle.match_graph.specs.declared.graph.Graph.{Graph}
 
 -- a kind of terminal; the pair of a pin is known by the class of its call
 abbrev pub plain_port : Port → PlainPort
-plain_port port.Channel = Channel
-plain_port port.Gate = Gate
-plain_port port.Bulk = Bulk
+plain_port port.EitherEnd = EitherEnd
+plain_port (port.Other k) = Other k
 plain_port (port.Pin i) = Pin 0 i
 
 abbrev pub plain_end : End → PlainEnd ℕ
@@ -25,9 +24,8 @@ plain_end e = record { port = plain_port e.port; node = e.node }
 
 -- the kinds of terminals of a pair by these names
 abbrev pub port_name : PlainPort → PlainPort
-port_name Channel = Channel
-port_name Gate = Gate
-port_name Bulk = Bulk
+port_name EitherEnd = EitherEnd
+port_name (Other k) = Other k
 port_name (Pin pair i) = Pin 0 i
 
 -- how many left nodes there are, and how many of both sides

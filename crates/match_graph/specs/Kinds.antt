@@ -1,5 +1,5 @@
 -- Nodes numbered by what the first round goes by.
-use Rattle.std.specs.Prelude.{◌≡◌, ◌↔◌, ◌<◌, ℕ, Bool, List, [], ◌++◌, length, map, Option, Some}
+use Rattle.std.specs.Prelude.{◌≡◌, ◌↔◌, ◌<◌, ℕ, Bool, List, [], ◌∷◌, ◌++◌, length, map, Option, Some}
 use Rattle.std.specs.Prelude.{None, slice_index, slice_index_or, unwrap_or}
 use Rattle.std.specs.HashMap.{get, hash_map_len}
 use Rattle.plain_netlist.specs.Netlist.{DeviceRow, CallRow, Circuit}
@@ -11,7 +11,7 @@ use Rattle.match_graph.specs.declared.kinds.Own.TheVariants.{Net, Device, Call}
 
 abbrev pub plain_own : Own → PlainOwn
 plain_own (Net is_pin name) = OfNet is_pin name.now
-plain_own (Device class length width) = OfDevice class.now length width
+plain_own (Device kind class first second) = OfDevice kind class.now (first ∷ second ∷ [])
 plain_own (Call pair) = OfCall pair
 
 -- what the first round goes by at each net, device and call of a circuit, where these are the names
@@ -23,7 +23,7 @@ abbrev pub net_owns : (ℕ → List ℕ) → Circuit → List PlainOwn
 net_owns name c = map (net_own name c) (numbers_from 0 (length c.nets))
 
 abbrev pub device_own : DeviceRow → PlainOwn
-device_own d = OfDevice d.class d.length d.width
+device_own d = OfDevice d.kind d.class d.sizes
 
 abbrev pub call_own : CallRow → PlainOwn
 call_own r = OfCall r.circuit

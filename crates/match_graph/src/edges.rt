@@ -1,13 +1,14 @@
-//! The terminals of both circuits' transistors and calls, as edges between nodes.
+//! The terminals of both circuits' devices and calls, as edges between nodes.
 
 ghost use Rattle.std.specs.Prelude.{◌≡◌, ◌<◌, ◌+◌, ◌++◌, ◌∷◌, [], ◌^◌, ℕ, length, slice_index};
 ghost use Rattle.std.specs.Prelude.{OnErr, OnOk, IfOk, ◌≤◌};
 ghost use Rattle.round_laws.specs.Nodes.{Layout, Schematic};
+ghost use Rattle.plain_netlist.specs.Devices.{terminal_nets};
 ghost use Rattle.match_laws.specs.Circuits.{IsFitting};
 ghost use Rattle.net_model.specs.Rows.{plain_circuit, plain_device, plain_call};
 ghost use Rattle.match_types.specs.Plain.{pair_of, plain_side};
 ghost use Rattle.match_types.specs.Children.{children_of};
-ghost use Rattle.match_parts.specs.Rows.{AreTerminalsBelow, AreDevicesOn, AreCallsOn, AreBelow};
+ghost use Rattle.match_parts.specs.Rows.{AreDevicesOn, AreCallsOn};
 ghost use Rattle.match_parts.specs.Rows.{ArePinsOf};
 ghost use Rattle.match_graph.specs.Numbering.{AreSizesOf, nodes_in};
 ghost use Rattle.match_graph.specs.Edges.{call_edges, device_edges, edges_from, pair_edges};
@@ -19,10 +20,10 @@ use crate::sizes::Sizes;
 use list_base::number;
 use match_types::{ChildPins, Side};
 use net_model::{Circuit, DeviceRow};
+use plain_netlist::DeviceKind;
 use std::alloc::{AllocError, Global};
 
-/// A terminal: the node of the transistor or call, the kind of the terminal, and the node of the
-/// net.
+/// A terminal: the node of the device or call, the kind of the terminal, and the node of the net.
 #[derive(Clone, Copy, Debug)]
 pub struct Edge {
     pub owner: u32,
@@ -30,7 +31,7 @@ pub struct Edge {
     pub net: u32,
 }
 
-/// The terminals of both circuits' transistors and calls, the left ones first.
+/// The terminals of both circuits' devices and calls, the left ones first.
 pub fn list_edges(
     alloc: Global,
     left: &Circuit,
@@ -53,8 +54,8 @@ pub fn list_edges(
     Ok(edges)
 }
 
-// Adds the terminals of a circuit's transistors and calls, in order. Those of a call are at right
-// pins, which the list of its pair gives on the left side.
+// Adds the terminals of a circuit's devices and calls, in order. Those of a call are at right pins,
+// which the list of its pair gives on the left side.
 fn list_side(
     circuit: &Circuit,
     sizes: &Sizes,
@@ -92,24 +93,36 @@ fn list_device_edges(
     Ok(())
 }
 
-// Adds the terminals of a transistor, where the first net of its circuit is this node.
+// Adds the terminals of a device, where the first net of its circuit is this node.
 fn push_device(
     row: &DeviceRow,
     first: u32,
     owner: u32,
     edges: &mut Vec<Edge>,
 ) -> Result<(), AllocError>
-    requires source { first + row.now.source < 2 ^ 32 }
-    requires gate { first + row.now.gate < 2 ^ 32 }
-    requires drain { first + row.now.drain < 2 ^ 32 }
-    requires bulk { first + row.now.bulk < 2 ^ 32 }
+    requires { (i : ℕ) → i < length (terminal_nets (plain_device row.now))
+        → first + slice_index (terminal_nets (plain_device row.now)) i < 2 ^ 32 }
     ensures { OnOk result (edges.new.items ≡ edges.old.items
         ++ device_edges first owner (plain_device row.now)) }
 {
-    push_edge(owner, Port::Channel, first + row.source, edges)?;
-    push_edge(owner, Port::Gate, first + row.gate, edges)?;
-    push_edge(owner, Port::Channel, first + row.drain, edges)?;
-    push_edge(owner, Port::Bulk, first + row.bulk, edges)
+    let nets = row.terminal_nets();
+    match row.kind {
+        DeviceKind::Mos4 => {
+            push_edge(owner, Port::EitherEnd, first + nets[0], edges)?;
+            push_edge(owner, Port::Other(0), first + nets[1], edges)?;
+            push_edge(owner, Port::EitherEnd, first + nets[2], edges)?;
+            push_edge(owner, Port::Other(1), first + nets[3], edges)
+        }
+        DeviceKind::ResistorWithBulk => {
+            push_edge(owner, Port::EitherEnd, first + nets[0], edges)?;
+            push_edge(owner, Port::Other(0), first + nets[1], edges)?;
+            push_edge(owner, Port::EitherEnd, first + nets[2], edges)
+        }
+        DeviceKind::Diode => {
+            push_edge(owner, Port::Other(0), first + nets[0], edges)?;
+            push_edge(owner, Port::Other(1), first + nets[1], edges)
+        }
+    }
 }
 
 fn push_edge(owner: u32, port: Port, net: u32, edges: &mut Vec<Edge>) -> Result<(), AllocError>

@@ -1,4 +1,4 @@
-//! The graph of two circuits: nets, transistors and calls as nodes, each with its ends.
+//! The graph of two circuits: nets, devices and calls as nodes, each with its ends.
 
 ghost use Rattle.std.specs.Prelude.{◌≡◌, ◌<◌, IfOk};
 ghost use Rattle.round_laws.specs.Nodes.{Layout, Schematic};
@@ -16,13 +16,12 @@ use match_types::{ChildPins, Node, Side};
 use net_model::Circuit;
 use std::alloc::{AllocError, Global};
 
-/// How a transistor or a call meets a net: source or drain, gate, bulk, or a right pin of the
-/// called pair.
+/// How a device or a call meets a net: either of the two ends that may change places, the other
+/// terminal of this place, or a right pin of the called pair.
 #[derive(Clone, Copy, PartialEq, Eq, PartialOrd, Ord, Debug)]
 pub enum Port {
-    Channel,
-    Gate,
-    Bulk,
+    EitherEnd,
+    Other(u8),
     Pin(u32),
 }
 
@@ -33,9 +32,9 @@ pub struct End {
     pub node: u32,
 }
 
-/// The nets, transistors and calls of two circuits as nodes: those of the left circuit first, of
-/// each the nets, then the transistors, then the calls, by number. Each node has its ends, and the
-/// number of its kind.
+/// The nets, devices and calls of two circuits as nodes: those of the left circuit first, of each
+/// the nets, then the devices, then the calls, by number. Each node has its ends, and the number of
+/// its kind.
 #[derive(Drop)]
 pub struct Graph {
     pub left: Sizes,

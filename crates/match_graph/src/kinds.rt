@@ -1,21 +1,23 @@
 //! The kinds of nodes: one number for all that look alike before the first round.
 
 ghost use Rattle.std.specs.Prelude.{◌≡◌, ◌<◌, ◌++◌, ◌∷◌, [], true, length, map, unwrap_or, OnOk, IfOk};
-ghost use Rattle.net_model.specs.Rows.{plain_circuit};
+ghost use Rattle.net_model.specs.Rows.{plain_circuit, plain_device};
 ghost use Rattle.match_parts.specs.Marks.{AreMarked};
 ghost use Rattle.match_graph.specs.Kinds.{Adds, AreKindsOf, call_own, circuit_owns, device_own};
 ghost use Rattle.match_graph.specs.Kinds.{ArePinNames, name_in, named_owns, net_owns, plain_own};
 ghost use Rattle.match_laws.specs.Circuits.{pin_name};
 
+use fixed_num::Femto;
 use list_base::number;
 use match_parts::mark;
-use net_model::Circuit;
+use net_model::{Circuit, DeviceRow};
 use net_names::{Name, folded};
+use plain_netlist::DeviceKind;
 use std::alloc::{AllocError, Global};
 use std::collections::HashMap;
 
 /// What the first round goes by: a net by being a pin, and by the pin's name where names tell pins
-/// apart, a transistor by class and sizes, a call by its pair.
+/// apart, a device by what it is, class and sizes, a call by its pair.
 #[derive(Clone, Copy, PartialEq, Eq, Hash)]
 enum Own<'a> {
     Net {
@@ -23,9 +25,10 @@ enum Own<'a> {
         name: &'a [u8],
     },
     Device {
+        kind: DeviceKind,
         class: &'a [u8],
-        length: u128,
-        width: u128,
+        first: u128,
+        second: u128,
     },
     Call {
         pair: u32,
@@ -77,7 +80,7 @@ fn kinds_by(
 }
 
 impl<'a> Kinds<'a> {
-    // Adds the nets, transistors and calls of a circuit, whose nets have these names.
+    // Adds the nets, devices and calls of a circuit, whose nets have these names.
     fn add_circuit(
         &mut self,
         alloc: Global,
@@ -119,12 +122,7 @@ impl<'a> Kinds<'a> {
             (map device_own (plain_circuit circuit.now).devices)) }
     {
         for k in 0..circuit.devices.len() {
-            let row = &circuit.devices[k];
-            self.add(Own::Device {
-                class: row.class.bytes(),
-                length: row.length.0,
-                width: row.width.0,
-            })?;
+            self.add(device_own(&circuit.devices[k]))?;
         }
         Ok(())
     }
@@ -156,6 +154,25 @@ impl<'a> Kinds<'a> {
         self.of_nodes.push(kind)?;
         Ok(())
     }
+}
+
+// What the first round goes by at a device.
+fn device_own<'a>(row: &'a DeviceRow) -> Own<'a>
+    ensures { plain_own result ≡ device_own (plain_device row.now) }
+{
+    let (first, second) = values(row.sizes);
+    Own::Device {
+        kind: row.kind,
+        class: row.class.bytes(),
+        first,
+        second,
+    }
+}
+
+fn values(sizes: [Femto; 2]) -> (u128, u128)
+    ensures { result.0 ∷ result.1 ∷ [] ≡ map (λ (f : Femto). f.0) sizes }
+{
+    (sizes[0].0, sizes[1].0)
 }
 
 // The name at a place, or an empty one where there is none.

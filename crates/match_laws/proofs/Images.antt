@@ -1,5 +1,5 @@
 -- A correspondence of circuits is one of their web.
-use Rattle.std.proofs.Common.{◌≡◌, ◌⊎◌, inl, inr, ℕ, ◌+◌, ◌<◌, ◌==◌, cond, Bool, true, false, List, [], ◌∷◌, map, length, slice_index, Option, Some, None, slice_get, bytes_eq, refl, sym, subst, ◌∙◌, ap, ap₂, arith, true≢false}
+use Rattle.std.proofs.Common.{◌≡◌, ◌⊎◌, inl, inr, ℕ, suc, ◌+◌, ◌<◌, ◌==◌, cond, Bool, true, false, List, [], ◌∷◌, map, length, slice_index, Option, Some, None, slice_get, bytes_eq, refl, sym, subst, ◌∙◌, ap, ap₂, arith, true≢false}
 use Rattle.base_laws.proofs.Tests.{same_truth}
 use Rattle.base_laws.proofs.Items.{item_at}
 use Rattle.std.proofs.lemmas.Bool.{and_from, cases_Bool}
@@ -10,10 +10,13 @@ use Rattle.std.proofs.lemmas.List.Sums.{sum_by-cons, sum_by-append}
 use Rattle.std.proofs.lemmas.Bool.Decides.{Decides-eqb}
 use Rattle.std.proofs.lemmas.Slice.Eq.{bytes_eq-Decides}
 use Rattle.plain_netlist.specs.Lists.{IsListed}
-use Rattle.round_laws.specs.Web.{Port, Channel, Gate, Bulk, Pin, End, IsWeb, IsWebMap}
+use Rattle.plain_netlist.specs.Kinds.{same_device_kind}
+use Rattle.plain_netlist.specs.Devices.{AreJoined, AreEndsJoined, Ends, NoEnds, Both, exchanged, nets_of, terminal_nets}
+use Rattle.plain_netlist.proofs.Rows as rows
+use Rattle.round_laws.specs.Web.{Port, EitherEnd, Other, Pin, End, IsWeb, IsWebMap}
 use Rattle.round_laws.specs.Nodes.{Node, Side, Layout, Schematic, Kind, Net, Device, Call}
 use Rattle.plain_netlist.specs.Netlist.{DeviceRow, CallRow}
-use Rattle.match_laws.specs.Circuits.{Pair, circuit_of, right_pin, numbers_from, node, end_at, device_ends, call_ends, terminals, terminals_of, owners, nodes, same_side, same_kind, same_node, ends_on, near_at, Own, OfNet, OfDevice, OfCall, OfNone, same_own, own_at, own, web_of, IsOneToOne, Pairing, IsDeviceImage, IsCallImage, IsCorrespondence, IsFitting, image_at, node_image}
+use Rattle.match_laws.specs.Circuits.{Pair, circuit_of, right_pin, numbers_from, node, end_at, other_ends, terminal_ends, device_ends, call_ends, terminals, terminals_of, owners, nodes, same_side, same_kind, same_node, ends_on, near_at, Own, OfNet, OfDevice, OfCall, OfNone, same_own, own_at, own, web_of, IsOneToOne, Pairing, IsDeviceImage, IsCallImage, IsCorrespondence, IsFitting, image_at, node_image}
 use Rattle.round_laws.proofs.Agree.{at_equivalence, first, second, in_left, in_right}
 use Rattle.round_laws.proofs.Stable.{in_either, any_found, any_of}
 use Rattle.round_laws.proofs.Unique.{node_is}
@@ -180,17 +183,17 @@ own_decides (OfNet a m) (OfNet b n) = (
     bool_is true false h = absurd (true≢false (sym h))
     bool_is false true h = absurd (true≢false (sym h))
     bool_is false false h = refl
-own_decides (OfDevice c l w) (OfDevice d m v) = (
+own_decides (OfDevice k c s) (OfDevice j d t) = (
   (λ h.
-      let p : c ≡ d = (bytes_eq-Decides c d).0 (first (bytes_eq c d) _ h) in
-      let q : l ≡ m = (Decides-eqb l m).0 (first (l == m) _ (second (bytes_eq c d) _ h)) in
-      let r : w ≡ v = (Decides-eqb w v).0 (second (l == m) _ (second (bytes_eq c d) _ h)) in
+      let o : k ≡ j = (rows.same_kind k j).0 (first (same_device_kind k j) _ h) in
+      let p : c ≡ d = (bytes_eq-Decides c d).0 (first (bytes_eq c d) _ (second (same_device_kind k j) _ h)) in
+      let q : s ≡ t = (bytes_eq-Decides s t).0 (second (bytes_eq c d) _ (second (same_device_kind k j) _ h)) in
       cc),
   (λ h.
+      let o : k ≡ j = cc in
       let p : c ≡ d = cc in
-      let q : l ≡ m = cc in
-      let r : w ≡ v = cc in
-      and_from (bytes_eq c d) _ ((bytes_eq-Decides c d).1 p) (and_from (l == m) _ ((Decides-eqb l m).1 q) ((Decides-eqb w v).1 r))),
+      let q : s ≡ t = cc in
+      and_from (same_device_kind k j) _ ((rows.same_kind k j).1 o) (and_from (bytes_eq c d) _ ((bytes_eq-Decides c d).1 p) ((bytes_eq-Decides s t).1 q))),
 )
 own_decides (OfCall p) (OfCall q) = ((λ h. ap OfCall ((Decides-eqb p q).0 h)), (λ h. let e : p ≡ q = cc in (Decides-eqb p q).1 e))
 own_decides OfNone OfNone = ((λ _. refl), (λ _. refl))
@@ -211,7 +214,7 @@ call_at p f c k h =
     (d.0, d.1, e.0, e.1, c.call k d.0 e.0 d.1 e.1)
 
 abbrev device_own : Option DeviceRow → Own
-device_own o = elim o [ None ↦ OfNone | Some d ↦ OfDevice d.class d.length d.width ]
+device_own o = elim o [ None ↦ OfNone | Some d ↦ OfDevice d.kind d.class d.sizes ]
 
 abbrev call_own : Option CallRow → Own
 call_own o = elim o [ None ↦ OfNone | Some c ↦ OfCall c.circuit ]
@@ -231,7 +234,7 @@ own_carried p f c Net k h = ap₂ OfNet (same_truth _ _
 own_carried p f c Device k h =
     let t = device_at p f c k h in
     let i = t.4 in
-    ap device_own t.1 ∙ ((let l = i.class in let m = i.length in let n = i.width in cc) ∙ sym (ap device_own t.3))
+    ap device_own t.1 ∙ ((let l = i.kind in let m = i.class in let n = i.sizes in cc) ∙ sym (ap device_own t.3))
 own_carried p f c Call k h =
     let t = call_at p f c k h in
     ap call_own t.1 ∙ (ap OfCall t.4.pair ∙ sym (ap call_own t.3))
@@ -250,32 +253,76 @@ call_terms p side o = elim o [ None ↦ [] | Some c ↦ call_ends p side c ]
 abbrev moved : Pairing → End Node → End Node
 moved f e = end_at e.port (node_image f e.node)
 
-pub sum_four : {X : Type 0} (g : X → ℕ) (a b c d : X) → sum_by g (a ∷ b ∷ c ∷ d ∷ []) ≡ g a + (g b + (g c + g d))
-sum_four g a b c d =
-    let p = sum_by-cons g a (b ∷ c ∷ d ∷ []) in
-    let q = sum_by-cons g b (c ∷ d ∷ []) in
-    let r = sum_by-cons g c (d ∷ []) in
-    let s = sum_by-cons g d [] in
+-- the ends alone
+abbrev pub ends_part : Side → Ends ℕ → List (End Node)
+ends_part side NoEnds = []
+ends_part side (Both a b) = end_at EitherEnd (node side Net a) ∷ end_at EitherEnd (node side Net b) ∷ []
+
+sum_two : {X : Type 0} (g : X → ℕ) (a b : X) (xs : List X) → sum_by g (a ∷ b ∷ xs) ≡ g a + (g b + sum_by g xs)
+sum_two g a b xs =
+    let p = sum_by-cons g a (b ∷ xs) in
+    let q = sum_by-cons g b xs in
+    omega arith
+
+-- a sum over the terminals is one over the ends and the others
+pub parted_sum : (g : End Node → ℕ) (side : Side) (e : Ends ℕ) (ns : List ℕ) → sum_by g (terminal_ends side e ns) ≡ sum_by g (ends_part side e) + sum_by g (other_ends side 0 ns)
+parted_sum g side NoEnds ns = let z : sum_by g [] ≡ 0 = refl in omega arith
+parted_sum g side (Both a b) [] =
+    let p = sum_two g (end_at EitherEnd (node side Net a)) (end_at EitherEnd (node side Net b)) [] in
+    let q = sum_two g (end_at EitherEnd (node side Net b)) (end_at EitherEnd (node side Net a)) [] in
     let z : sum_by g [] ≡ 0 = refl in
     omega arith
+parted_sum g side (Both a b) (n ∷ ns) =
+    let p = sum_two g (end_at EitherEnd (node side Net a)) (end_at EitherEnd (node side Net b)) [] in
+    let q = sum_two g (end_at EitherEnd (node side Net b)) (end_at (Other 0) (node side Net n)) (end_at EitherEnd (node side Net a) ∷ other_ends side 1 ns) in
+    let r = sum_by-cons g (end_at EitherEnd (node side Net a)) (other_ends side 1 ns) in
+    let s = sum_by-cons g (end_at (Other 0) (node side Net n)) (other_ends side 1 ns) in
+    let z : sum_by g [] ≡ 0 = refl in
+    omega arith
+
+exchanged_sum : (g : End Node → ℕ) (side : Side) (e : Ends ℕ) → sum_by g (ends_part side (exchanged e)) ≡ sum_by g (ends_part side e)
+exchanged_sum g side NoEnds = refl
+exchanged_sum g side (Both a b) =
+    let p = sum_two g (end_at EitherEnd (node side Net a)) (end_at EitherEnd (node side Net b)) [] in
+    let q = sum_two g (end_at EitherEnd (node side Net b)) (end_at EitherEnd (node side Net a)) [] in
+    omega arith
+
+module _ (f : Pairing) (g : End Node → ℕ) where
+  -- the net of the right device is the image of the left one's
+  at_image : (port : Port) (n m : ℕ) → slice_index f.nets n ≡ m → g (end_at port (node Schematic Net m)) ≡ g (moved f (end_at port (node Layout Net n)))
+  at_image port n m e = ap (λ (k : ℕ). g (end_at port (node Schematic Net k))) (sym e)
+
+  others_sum : (i : ℕ) (ns ms : List ℕ) → AreJoined (λ n m. slice_index f.nets n ≡ m) ns ms → sum_by g (other_ends Schematic i ms) ≡ sum_by (λ x. g (moved f x)) (other_ends Layout i ns)
+  others_sum i [] [] h = refl
+  others_sum i (n ∷ ns) (m ∷ ms) h =
+      let a = sum_by-cons g (end_at (Other i) (node Schematic Net m)) (other_ends Schematic (suc i) ms) in
+      let b = sum_by-cons (λ x. g (moved f x)) (end_at (Other i) (node Layout Net n)) (other_ends Layout (suc i) ns) in
+      let e = at_image (Other i) n m h.0 in
+      let rest = others_sum (suc i) ns ms h.1 in
+      cc
+  others_sum i [] (m ∷ ms) h = absurd h
+  others_sum i (n ∷ ns) [] h = absurd h
+
+  ends_sum : (d e : Ends ℕ) → AreEndsJoined (λ n m. slice_index f.nets n ≡ m) d e → sum_by g (ends_part Schematic e) ≡ sum_by (λ x. g (moved f x)) (ends_part Layout d)
+  ends_sum NoEnds NoEnds h = refl
+  ends_sum (Both a b) (Both c d) h =
+      let p = sum_two g (end_at EitherEnd (node Schematic Net c)) (end_at EitherEnd (node Schematic Net d)) [] in
+      let q = sum_two (λ x. g (moved f x)) (end_at EitherEnd (node Layout Net a)) (end_at EitherEnd (node Layout Net b)) [] in
+      let s = at_image EitherEnd a c h.0 in
+      let t = at_image EitherEnd b d h.1 in
+      cc
+  ends_sum NoEnds (Both c d) h = absurd h
+  ends_sum (Both a b) NoEnds h = absurd h
 
 device_sums : (f : Pairing) (d e : DeviceRow) (g : End Node → ℕ) → IsDeviceImage f.nets d e
     → sum_by g (device_ends Schematic e) ≡ sum_by (λ x. g (moved f x)) (device_ends Layout d)
 device_sums f d e g i =
-    let u : Port → ℕ → ℕ = λ port n. g (end_at port (node Schematic Net n)) in
-    let a = sum_four g (end_at Channel (node Schematic Net e.source)) (end_at Gate (node Schematic Net e.gate)) (end_at Channel (node Schematic Net e.drain)) (end_at Bulk (node Schematic Net e.bulk)) in
-    let b = sum_four (λ x. g (moved f x)) (end_at Channel (node Layout Net d.source)) (end_at Gate (node Layout Net d.gate)) (end_at Channel (node Layout Net d.drain)) (end_at Bulk (node Layout Net d.bulk)) in
-    let gate : g (end_at Gate (node Schematic Net (slice_index f.nets d.gate))) ≡ g (end_at Gate (node Schematic Net e.gate)) = ap (λ (n : ℕ). g (end_at Gate (node Schematic Net n))) i.gate in
-    let bulk : g (end_at Bulk (node Schematic Net (slice_index f.nets d.bulk))) ≡ g (end_at Bulk (node Schematic Net e.bulk)) = ap (λ (n : ℕ). g (end_at Bulk (node Schematic Net n))) i.bulk in
-    elim i.channel [
-      | inl h ↦
-          let s : g (end_at Channel (node Schematic Net (slice_index f.nets d.source))) ≡ g (end_at Channel (node Schematic Net e.source)) = ap (λ (n : ℕ). g (end_at Channel (node Schematic Net n))) h.0 in
-          let t : g (end_at Channel (node Schematic Net (slice_index f.nets d.drain))) ≡ g (end_at Channel (node Schematic Net e.drain)) = ap (λ (n : ℕ). g (end_at Channel (node Schematic Net n))) h.1 in
-          omega arith
-      | inr h ↦
-          let s : g (end_at Channel (node Schematic Net (slice_index f.nets d.source))) ≡ g (end_at Channel (node Schematic Net e.drain)) = ap (λ (n : ℕ). g (end_at Channel (node Schematic Net n))) h.0 in
-          let t : g (end_at Channel (node Schematic Net (slice_index f.nets d.drain))) ≡ g (end_at Channel (node Schematic Net e.source)) = ap (λ (n : ℕ). g (end_at Channel (node Schematic Net n))) h.1 in
-          omega arith
+    let a = parted_sum g Schematic e.ends e.others in
+    let b = parted_sum (λ x. g (moved f x)) Layout d.ends d.others in
+    let others = others_sum f g 0 d.others e.others i.others in
+    elim i.ends [
+      | inl h ↦ let ends = ends_sum f g d.ends e.ends h in omega arith
+      | inr h ↦ let ends = ends_sum f g d.ends (exchanged e.ends) h in let turned = exchanged_sum g Schematic e.ends in omega arith
     ]
 
 call_sums : (p : Pair) (f : Pairing) (c e : CallRow) (g : End Node → ℕ) → (i : IsCallImage p.children f.nets c e) → IsOneToOne i.pins (length c.nets) (length c.nets)
@@ -311,20 +358,53 @@ pub seen : {X : Type 0} (o : Option X) → (o ≡ None) ⊎ ((x : X) × (o ≡ S
 seen None = inl refl
 seen (Some x) = inr (x, refl)
 
-pub in_device : (side : Side) (d : DeviceRow) (e : End Node) → IsListed e (device_ends side d) → e.node ≡ node side Net e.node.number
-in_device side d e i = elim i [
-  | inl h ↦ subst (λ (x : End Node). x.node ≡ node side Net x.node.number) (sym h) refl
-  | inr j ↦ elim j [
-    | inl h ↦ subst (λ (x : End Node). x.node ≡ node side Net x.node.number) (sym h) refl
-    | inr l ↦ elim l [
-      | inl h ↦ subst (λ (x : End Node). x.node ≡ node side Net x.node.number) (sym h) refl
-      | inr m ↦ elim m [
-        | inl h ↦ subst (λ (x : End Node). x.node ≡ node side Net x.node.number) (sym h) refl
-        | inr n ↦ absurd n
-      ]
-    ]
-  ]
-]
+-- a terminal's end is at the net of its number, which is a terminal's
+pub record IsAtNet (side : Side) (e : End Node) (ns : List ℕ) : Type 0 where
+  pub net : e.node ≡ node side Net e.node.number
+  pub listed : IsListed e.node.number ns
+
+at_net_of : (side : Side) (port : Port) (n : ℕ) (e : End Node) (ns : List ℕ) → e ≡ end_at port (node side Net n) → IsListed n ns → IsAtNet side e ns
+at_net_of side port n e ns h i = subst (λ (x : End Node). IsAtNet side x ns) (sym h) (record { net = refl; listed = i })
+
+at_net_more : (side : Side) (e : End Node) (ns ms : List ℕ) → ((n : ℕ) → IsListed n ns → IsListed n ms) → IsAtNet side e ns → IsAtNet side e ms
+at_net_more side e ns ms on a = record { net = a.net; listed = on e.node.number a.listed }
+
+pub in_others : (side : Side) (i : ℕ) (ns : List ℕ) (e : End Node) → IsListed e (other_ends side i ns) → IsAtNet side e ns
+in_others side i [] e h = absurd h
+in_others side i (n ∷ ns) e (inl h) = at_net_of side (Other i) n e (n ∷ ns) h (inl refl)
+in_others side i (n ∷ ns) e (inr h) = at_net_more side e ns (n ∷ ns) (λ m l. inr l) (in_others side (suc i) ns e h)
+
+in_terminals : (side : Side) (d : Ends ℕ) (ns : List ℕ) (e : End Node) → IsListed e (terminal_ends side d ns) → IsAtNet side e (nets_of d ns)
+in_terminals side NoEnds ns e h = in_others side 0 ns e h
+in_terminals side (Both a b) [] e (inl h) = at_net_of side EitherEnd b e (b ∷ a ∷ []) h (inl refl)
+in_terminals side (Both a b) [] e (inr (inl h)) = at_net_of side EitherEnd a e (b ∷ a ∷ []) h (inr (inl refl))
+in_terminals side (Both a b) [] e (inr (inr h)) = absurd h
+in_terminals side (Both a b) (n ∷ ns) e (inl h) = at_net_of side EitherEnd b e (b ∷ n ∷ a ∷ ns) h (inl refl)
+in_terminals side (Both a b) (n ∷ ns) e (inr (inl h)) = at_net_of side (Other 0) n e (b ∷ n ∷ a ∷ ns) h (inr (inl refl))
+in_terminals side (Both a b) (n ∷ ns) e (inr (inr (inl h))) = at_net_of side EitherEnd a e (b ∷ n ∷ a ∷ ns) h (inr (inr (inl refl)))
+in_terminals side (Both a b) (n ∷ ns) e (inr (inr (inr h))) = at_net_more side e ns (b ∷ n ∷ a ∷ ns) (λ m l. inr (inr (inr l))) (in_others side 1 ns e h)
+
+pub device_net : (side : Side) (d : DeviceRow) (e : End Node) → IsListed e (device_ends side d) → IsAtNet side e (terminal_nets d)
+device_net side d e i = in_terminals side d.ends d.others e i
+
+-- each terminal's net has an end
+others_has : (side : Side) (i : ℕ) (ns : List ℕ) (n : ℕ) → IsListed n ns → (port : Port) × IsListed (end_at port (node side Net n)) (other_ends side i ns)
+others_has side i [] n h = absurd h
+others_has side i (m ∷ ns) n (inl h) = (Other i, inl (ap (λ (k : ℕ). end_at (Other i) (node side Net k)) h))
+others_has side i (m ∷ ns) n (inr h) = let r = others_has side (suc i) ns n h in (r.0, inr r.1)
+
+terminals_has : (side : Side) (d : Ends ℕ) (ns : List ℕ) (n : ℕ) → IsListed n (nets_of d ns) → (port : Port) × IsListed (end_at port (node side Net n)) (terminal_ends side d ns)
+terminals_has side NoEnds ns n h = others_has side 0 ns n h
+terminals_has side (Both a b) [] n (inl h) = (EitherEnd, inl (ap (λ (k : ℕ). end_at EitherEnd (node side Net k)) h))
+terminals_has side (Both a b) [] n (inr (inl h)) = (EitherEnd, inr (inl (ap (λ (k : ℕ). end_at EitherEnd (node side Net k)) h)))
+terminals_has side (Both a b) [] n (inr (inr h)) = absurd h
+terminals_has side (Both a b) (m ∷ ns) n (inl h) = (EitherEnd, inl (ap (λ (k : ℕ). end_at EitherEnd (node side Net k)) h))
+terminals_has side (Both a b) (m ∷ ns) n (inr (inl h)) = (Other 0, inr (inl (ap (λ (k : ℕ). end_at (Other 0) (node side Net k)) h)))
+terminals_has side (Both a b) (m ∷ ns) n (inr (inr (inl h))) = (EitherEnd, inr (inr (inl (ap (λ (k : ℕ). end_at EitherEnd (node side Net k)) h))))
+terminals_has side (Both a b) (m ∷ ns) n (inr (inr (inr h))) = let r = others_has side 1 ns n h in (r.0, inr (inr (inr r.1)))
+
+pub net_has_end : (side : Side) (d : DeviceRow) (n : ℕ) → IsListed n (terminal_nets d) → (port : Port) × IsListed (end_at port (node side Net n)) (device_ends side d)
+net_has_end side d n h = terminals_has side d.ends d.others n h
 
 pub terminals_listed : (p : Pair) (side : Side) → IsFitting p side → (kind : Kind) (k : ℕ) (e : End Node) → IsListed e (terminals p side kind k) → IsListed e.node (nodes p side)
 terminals_listed p side fit Net k e i = absurd i
@@ -332,7 +412,7 @@ terminals_listed p side fit Device k e i = elim (seen (slice_get (circuit_of p s
   | inl none ↦ absurd (subst (λ (o : Option DeviceRow). IsListed e (device_terms side o)) none i)
   | inr some ↦
       let j : IsListed e (device_ends side some.0) = subst (λ (o : Option DeviceRow). IsListed e (device_terms side o)) some.1 i in
-      subst (λ (n : Node). IsListed n (nodes p side)) (sym (in_device side some.0 e j)) (nodes_has p side Net e.node.number (fit.devices k some.0 some.1 e j))
+      subst (λ (n : Node). IsListed n (nodes p side)) (sym (device_net side some.0 e j).net) (nodes_has p side Net e.node.number (fit.devices k some.0 some.1 e j))
 ]
 terminals_listed p side fit Call k e i = elim (seen (slice_get (circuit_of p side).calls k)) [
   | inl none ↦ absurd (subst (λ (o : Option CallRow). IsListed e (call_terms p side o)) none i)

@@ -8,25 +8,27 @@ use Rattle.std.proofs.Math.Decide.{ℕ_discrete}
 use Rattle.std.proofs.lemmas.Option.{same_Some, slice_get_within}
 use Rattle.std.proofs.lemmas.Bool.Decides.{Decides-eqb}
 use Rattle.plain_netlist.specs.Lists.{IsListed}
-use Rattle.round_laws.specs.Web.{Port, Channel, Gate, Bulk, Pin, same_port, End, IsWebMap}
+use Rattle.plain_netlist.specs.Devices.{Ends, NoEnds, Both, exchanged, AreEndsJoined, AreJoined}
+use Rattle.plain_netlist.proofs.Rows.{rows_where}
+use Rattle.round_laws.specs.Web.{Port, EitherEnd, Other, Pin, same_port, End, IsWebMap}
 use Rattle.round_laws.specs.Nodes.{Node, Side, Layout, Schematic, Kind, Net, Device, Call}
 use Rattle.plain_netlist.specs.Netlist.{DeviceRow, CallRow}
-use Rattle.match_laws.specs.Circuits.{Pair, circuit_of, right_pin, numbers_from, node, end_at, device_ends, call_ends, nodes, same_node, near_at, Own, OfNet, OfDevice, OfCall, OfNone, own_at, own, web_of, IsOneToOne, IsDeviceImage, IsCallImage, IsCorrespondence, IsFitting, numbers_of, pairing_of, AreMatched, pin_name}
+use Rattle.match_laws.specs.Circuits.{Pair, circuit_of, right_pin, numbers_from, node, end_at, other_ends, device_ends, call_ends, nodes, same_node, near_at, Own, OfNet, OfDevice, OfCall, OfNone, own_at, own, web_of, IsOneToOne, IsDeviceImage, IsCallImage, IsCorrespondence, IsFitting, numbers_of, pairing_of, AreMatched, pin_name}
 use Rattle.round_laws.proofs.Agree.{count-cons, first, second, count_same, port_same}
 use Rattle.round_laws.proofs.Stable.{any_found, any_of}
 use Rattle.round_laws.proofs.Solved.{count-has, cut, here_mid}
 use Rattle.match_laws.proofs.Sums.{sum-map, in_numbers, numbers_has, number_once, map_has, in_map, listed_index}
-use Rattle.match_laws.proofs.Images.{size, nodes_has, nodes_there, own_decides, node_decides, sum_four, device_terms, call_terms}
+use Rattle.match_laws.proofs.Images.{size, nodes_has, nodes_there, own_decides, node_decides, ends_part, parted_sum, net_has_end, device_terms, call_terms}
 
 -- kinds
 abbrev kind_of : Own → Option Kind
 kind_of (OfNet b n) = Some Net
-kind_of (OfDevice c l w) = Some Device
+kind_of (OfDevice k c s) = Some Device
 kind_of (OfCall p) = Some Call
 kind_of OfNone = None
 
 abbrev device_own : Option DeviceRow → Own
-device_own o = elim o [ None ↦ OfNone | Some d ↦ OfDevice d.class d.length d.width ]
+device_own o = elim o [ None ↦ OfNone | Some d ↦ OfDevice d.kind d.class d.sizes ]
 
 abbrev call_own : Option CallRow → Own
 call_own o = elim o [ None ↦ OfNone | Some c ↦ OfCall c.circuit ]
@@ -182,53 +184,123 @@ device_near p f c k d e h left right q =
     ∙ (c.near (node Layout Device k) (nodes_has p Layout Device k h) q
     ∙ ap (λ (o : Option DeviceRow). count_by (λ x. q (end_at x.port (f x.node))) (device_terms Layout o)) left))
 
+-- ends at net m, by where each net goes
+ends_count : (ℕ → ℕ) → ℕ → Ends ℕ → ℕ
+ends_count go m NoEnds = 0
+ends_count go m (Both a b) = one_for (m == go a) + one_for (m == go b)
+
+-- and others of place k, counted from place i
+others_count : (ℕ → ℕ) → ℕ → ℕ → ℕ → List ℕ → ℕ
+others_count go k m i [] = 0
+others_count go k m i (n ∷ ns) = one_for ((k == i) && (m == go n)) + others_count go k m (suc i) ns
+
+module _ (f : Node → Node) (side : Side) where
+  abbrev goes : ℕ → ℕ
+  goes n = (f (node side Net n)).number
+
+  abbrev moves : (End Node → Bool) → End Node → Bool
+  moves q x = q (end_at x.port (f x.node))
+
+  either_ends : (m : ℕ) (e : Ends ℕ) → count_by (moves (at_net EitherEnd m)) (ends_part side e) ≡ ends_count goes m e
+  unfolding ends_count
+  either_ends m NoEnds = refl
+  either_ends m (Both a b) =
+      let p = count-cons (moves (at_net EitherEnd m)) (end_at EitherEnd (node side Net a)) (end_at EitherEnd (node side Net b) ∷ []) in
+      let q = count-cons (moves (at_net EitherEnd m)) (end_at EitherEnd (node side Net b)) [] in
+      omega arith
+
+  no_other : (m i : ℕ) (ns : List ℕ) → count_by (moves (at_net EitherEnd m)) (other_ends side i ns) ≡ 0
+  no_other m i [] = refl
+  no_other m i (n ∷ ns) =
+      let step = count-cons (moves (at_net EitherEnd m)) (end_at (Other i) (node side Net n)) (other_ends side (suc i) ns) in
+      let rest = no_other m (suc i) ns in
+      omega arith
+
+  no_end : (k m : ℕ) (e : Ends ℕ) → count_by (moves (at_net (Other k) m)) (ends_part side e) ≡ 0
+  no_end k m NoEnds = refl
+  no_end k m (Both a b) = refl
+
+  placed : (k m i : ℕ) (ns : List ℕ) → count_by (moves (at_net (Other k) m)) (other_ends side i ns) ≡ others_count goes k m i ns
+  unfolding others_count
+  placed k m i [] = refl
+  placed k m i (n ∷ ns) =
+      count-cons (moves (at_net (Other k) m)) (end_at (Other i) (node side Net n)) (other_ends side (suc i) ns)
+      ∙ ap (λ (z : ℕ). one_for ((k == i) && (m == goes n)) + z) (placed k m (suc i) ns)
+
+  of_ends : (m : ℕ) (d : DeviceRow) → count_by (moves (at_net EitherEnd m)) (device_ends side d) ≡ ends_count goes m d.ends
+  of_ends m d =
+      let a = parted_sum (λ x. one_for (moves (at_net EitherEnd m) x)) side d.ends d.others in
+      let b = either_ends m d.ends in
+      let z = no_other m 0 d.others in
+      omega arith
+
+  of_others : (k m : ℕ) (d : DeviceRow) → count_by (moves (at_net (Other k) m)) (device_ends side d) ≡ others_count goes k m 0 d.others
+  of_others k m d =
+      let a = parted_sum (λ x. one_for (moves (at_net (Other k) m) x)) side d.ends d.others in
+      let b = placed k m 0 d.others in
+      let z = no_end k m d.ends in
+      omega arith
+
+both_one : (k m n : ℕ) → m ≡ n → one_for ((k == k) && (m == n)) ≡ 1
+both_one k m n e = ap one_for (and_from (k == k) _ ((Decides-eqb k k).1 refl) ((Decides-eqb m n).1 e))
+
+-- none of an earlier place
+none_before : (go : ℕ → ℕ) (k m i : ℕ) (ns : List ℕ) → k < i → others_count go k m i ns ≡ 0
+unfolding others_count
+none_before go k m i [] low = refl
+none_before go k m i (n ∷ ns) low =
+    let e : (k == i) ≡ false = elim (cases_Bool (k == i)) [ inl t ↦ absurd (let s = (Decides-eqb k i).0 t in omega arith) | inr r ↦ r ] in
+    let rest = none_before go k m (suc i) ns (omega arith) in
+    let head : one_for ((k == i) && (m == go n)) ≡ 0 = ap (λ (b : Bool). one_for (b && (m == go n))) e in
+    omega arith
+
+-- equal counts at each net and place: the nets go to those of their places
+others_go : (go : ℕ → ℕ) (i : ℕ) (ns ms : List ℕ) → ((k m : ℕ) → others_count (λ n. n) k m i ms ≡ others_count go k m i ns) → AreJoined (λ n m. go n ≡ m) ns ms
+unfolding others_count
+others_go go i [] [] same = tt
+others_go go i [] (m ∷ ms) same = absurd (let e = same i m in let one = both_one i m m refl in omega arith)
+others_go go i (n ∷ ns) [] same = absurd (let e = same i (go n) in let one = both_one i (go n) (go n) refl in omega arith)
+others_go go i (n ∷ ns) (m ∷ ms) same =
+    let at = same i m in
+    let one = both_one i m m refl in
+    let none = none_before (λ x. x) i m (suc i) ms (omega arith) in
+    let none_here = none_before go i m (suc i) ns (omega arith) in
+    let is : go n ≡ m = sym ((Decides-eqb m (go n)).0 (second (i == i) _ (is_one ((i == i) && (m == go n)) (omega arith)))) in (
+      is,
+      others_go go (suc i) ns ms (λ k x.
+          let e = same k x in
+          let h : one_for ((k == i) && (x == go n)) ≡ one_for ((k == i) && (x == m)) = ap (λ (y : ℕ). one_for ((k == i) && (x == y))) is in
+          omega arith),
+    )
+
+ends_go : (go : ℕ → ℕ) (d e : Ends ℕ) → ((m : ℕ) → ends_count (λ n. n) m e ≡ ends_count go m d)
+    → AreEndsJoined (λ n m. go n ≡ m) d e ⊎ AreEndsJoined (λ n m. go n ≡ m) d (exchanged e)
+unfolding ends_count
+ends_go go NoEnds NoEnds same = inl tt
+ends_go go NoEnds (Both a b) same = absurd (let e = same a in let one = equal_one a a refl in omega arith)
+ends_go go (Both a b) NoEnds same = absurd (let e = same (go a) in let one = equal_one (go a) (go a) refl in omega arith)
+ends_go go (Both a b) (Both c d) same = two_of_two (go a) (go b) c d (λ m. sym (same m))
+
 device_image : (p : Pair) (f : Node → Node) → IsFitting p Layout → IsWebMap (web_of p) f → (k : ℕ) (d e : DeviceRow) → k < size p Layout Device → slice_get p.left.devices k ≡ Some d
     → slice_get p.right.devices (f (node Layout Device k)).number ≡ Some e → IsDeviceImage (numbers_of f Net (length p.left.nets)) d e
 device_image p f fit c k d e h left right =
     let m = image p f c Device k h in
-    let same : OfDevice d.class d.length d.width ≡ OfDevice e.class e.length e.width = sym (ap device_own left) ∙ (m.own ∙ ap device_own right) in
+    let same : OfDevice d.kind d.class d.sizes ≡ OfDevice e.kind e.class e.sizes = sym (ap device_own left) ∙ (m.own ∙ ap device_own right) in
+    let kind : d.kind ≡ e.kind = cc in
     let class : d.class ≡ e.class = cc in
-    let long : d.length ≡ e.length = cc in
-    let wide : d.width ≡ e.width = cc in
-    let ends = device_near p f c k d e h left right in
-    let source_low = fit.devices k d left (end_at Channel (node Layout Net d.source)) (inl refl) in
-    let gate_low = fit.devices k d left (end_at Gate (node Layout Net d.gate)) (inr (inl refl)) in
-    let drain_low = fit.devices k d left (end_at Channel (node Layout Net d.drain)) (inr (inr (inl refl))) in
-    let bulk_low = fit.devices k d left (end_at Bulk (node Layout Net d.bulk)) (inr (inr (inr (inl refl)))) in
-    let gate : (f (node Layout Net d.gate)).number ≡ e.gate = sym ((Decides-eqb e.gate _).0 (gate_of f d e (ends (at_net Gate e.gate)))) in
-    let bulk : (f (node Layout Net d.bulk)).number ≡ e.bulk = sym ((Decides-eqb e.bulk _).0 (bulk_of f d e (ends (at_net Bulk e.bulk)))) in
-    let channel = two_of_two (f (node Layout Net d.source)).number (f (node Layout Net d.drain)).number e.source e.drain (λ x. channel_of f d e x (ends (at_net Channel x))) in
-    let n : ℕ = length p.left.nets in
-    let s = index_image f Net n d.source source_low in
-    let t = index_image f Net n d.drain drain_low in
-    record {
+    let sizes : d.sizes ≡ e.sizes = cc in
+    let near = device_near p f c k d e h left right in
+    rows_where (λ n x. (f (node Layout Net n)).number ≡ x) (λ n x. slice_index (numbers_of f Net (length p.left.nets)) n ≡ x) d e
+    (λ n x listed at.
+    let port = net_has_end Layout d n listed in
+    index_image f Net (length p.left.nets) n (fit.devices k d left (end_at port.0 (node Layout Net n)) port.1) ∙ at)
+    (record {
+      kind = kind;
       class = class;
-      length = long;
-      width = wide;
-      gate = index_image f Net n d.gate gate_low ∙ gate;
-      bulk = index_image f Net n d.bulk bulk_low ∙ bulk;
-      channel = elim channel [ inl g ↦ inl (s ∙ g.0, t ∙ g.1) | inr g ↦ inr (s ∙ g.0, t ∙ g.1) ];
-    }
-  where
-    four : (f : Node → Node) (d e : DeviceRow) (q : End Node → Bool) → count_by q (device_ends Schematic e) ≡ count_by (λ x. q (end_at x.port (f x.node))) (device_ends Layout d)
-        → one_for (q (end_at Channel (node Schematic Net e.source))) + (one_for (q (end_at Gate (node Schematic Net e.gate))) + (one_for (q (end_at Channel (node Schematic Net e.drain))) + one_for (q (end_at Bulk (node Schematic Net e.bulk)))))
-        ≡ one_for (q (end_at Channel (f (node Layout Net d.source)))) + (one_for (q (end_at Gate (f (node Layout Net d.gate)))) + (one_for (q (end_at Channel (f (node Layout Net d.drain)))) + one_for (q (end_at Bulk (f (node Layout Net d.bulk))))))
-    four f d e q h =
-        let a = sum_four (λ x. one_for (q x)) (end_at Channel (node Schematic Net e.source)) (end_at Gate (node Schematic Net e.gate)) (end_at Channel (node Schematic Net e.drain)) (end_at Bulk (node Schematic Net e.bulk)) in
-        let b = sum_four (λ x. one_for (q (end_at x.port (f x.node)))) (end_at Channel (node Layout Net d.source)) (end_at Gate (node Layout Net d.gate)) (end_at Channel (node Layout Net d.drain)) (end_at Bulk (node Layout Net d.bulk)) in
-        omega arith
-
-    gate_of : (f : Node → Node) (d e : DeviceRow) → count_by (at_net Gate e.gate) (device_ends Schematic e) ≡ count_by (λ x. at_net Gate e.gate (end_at x.port (f x.node))) (device_ends Layout d)
-        → (e.gate == (f (node Layout Net d.gate)).number) ≡ true
-    gate_of f d e h = let x = four f d e (at_net Gate e.gate) h in let one = equal_one e.gate e.gate refl in is_one _ (omega arith)
-
-    bulk_of : (f : Node → Node) (d e : DeviceRow) → count_by (at_net Bulk e.bulk) (device_ends Schematic e) ≡ count_by (λ x. at_net Bulk e.bulk (end_at x.port (f x.node))) (device_ends Layout d)
-        → (e.bulk == (f (node Layout Net d.bulk)).number) ≡ true
-    bulk_of f d e h = let x = four f d e (at_net Bulk e.bulk) h in let one = equal_one e.bulk e.bulk refl in is_one _ (omega arith)
-
-    channel_of : (f : Node → Node) (d e : DeviceRow) (m : ℕ) → count_by (at_net Channel m) (device_ends Schematic e) ≡ count_by (λ x. at_net Channel m (end_at x.port (f x.node))) (device_ends Layout d)
-        → one_for (m == (f (node Layout Net d.source)).number) + one_for (m == (f (node Layout Net d.drain)).number) ≡ one_for (m == e.source) + one_for (m == e.drain)
-    channel_of f d e m h = let x = four f d e (at_net Channel m) h in omega arith
+      sizes = sizes;
+      ends = ends_go (goes f Layout) d.ends e.ends (λ x. sym (of_ends (λ n. n) Schematic x e) ∙ (near (at_net EitherEnd x) ∙ of_ends f Layout x d));
+      others = others_go (goes f Layout) 0 d.others e.others (λ j x. sym (of_others (λ n. n) Schematic j x e) ∙ (near (at_net (Other j) x) ∙ of_others f Layout j x d));
+    })
 
 -- calls
 all_count : {X : Type 0} (xs : List X) → count_by (λ x. true) xs ≡ length xs

@@ -1,14 +1,17 @@
 -- Two circuits as a web, and what a correspondence of two circuits is, given the right pin of each
 -- left pin of the called pairs.
-use Rattle.std.specs.Prelude.{◌≡◌, ◌⊎◌, ◌↔◌, ◌<◌, ◌==◌, ◌&&◌, ℕ, zero, suc, Bool, true, false, cond}
+use Rattle.std.specs.Prelude.{◌≡◌, ◌↔◌, ◌<◌, ◌==◌, ◌&&◌, ℕ, zero, suc, Bool, true, false, cond}
 use Rattle.std.specs.Prelude.{List, [], ◌∷◌, ◌++◌, map, length, count_by, flat_map, Option, Some}
 use Rattle.std.specs.Prelude.{None, slice_get, slice_index, slice_index_or, bytes_eq}
 use Rattle.std.specs.Bool.{beq}
 use Rattle.std.specs.List.{list_any}
 use Rattle.net_names.specs.Folding.{folded_bytes}
+use Rattle.plain_netlist.specs.declared.kinds.DeviceKind.{DeviceKind}
+use Rattle.plain_netlist.specs.Kinds.{same_device_kind}
+use Rattle.plain_netlist.specs.Devices.{Ends, NoEnds, Both, AreRowsAlike}
 use Rattle.plain_netlist.specs.Netlist.{DeviceRow, CallRow, Circuit}
 use Rattle.plain_netlist.specs.Lists.{IsListed}
-use Rattle.round_laws.specs.Web.{Port, Channel, Gate, Bulk, Pin, End, Web, IsWebMap}
+use Rattle.round_laws.specs.Web.{Port, EitherEnd, Other, Pin, End, Web, IsWebMap}
 use Rattle.round_laws.specs.Nodes.{Node, Side, Layout, Schematic, Kind, Net, Device, Call}
 
 -- two circuits to be compared; children: for each matched pair the right pin of each left pin
@@ -41,11 +44,23 @@ node side kind k = record { side = side; kind = kind; number = k }
 abbrev pub end_at : Port → Node → End Node
 end_at port n = record { port = port; node = n }
 
--- the terminals of a device: source and drain are of one kind
+-- the terminals that have a place of their own, from this place on
+abbrev pub other_ends : Side → ℕ → List ℕ → List (End Node)
+other_ends side place [] = []
+other_ends side place (n ∷ ns) =
+    end_at (Other place) (node side Net n) ∷ other_ends side (suc place) ns
+
+-- the terminals of a device in the order of its nets: its two ends are of one kind
+abbrev pub terminal_ends : Side → Ends ℕ → List ℕ → List (End Node)
+terminal_ends side NoEnds others = other_ends side 0 others
+terminal_ends side (Both a b) [] =
+    end_at EitherEnd (node side Net b) ∷ end_at EitherEnd (node side Net a) ∷ []
+terminal_ends side (Both a b) (n ∷ ns) =
+    end_at EitherEnd (node side Net b) ∷ end_at (Other 0) (node side Net n)
+    ∷ end_at EitherEnd (node side Net a) ∷ other_ends side 1 ns
+
 abbrev pub device_ends : Side → DeviceRow → List (End Node)
-device_ends side d =
-    end_at Channel (node side Net d.source) ∷ end_at Gate (node side Net d.gate)
-    ∷ end_at Channel (node side Net d.drain) ∷ end_at Bulk (node side Net d.bulk) ∷ []
+device_ends side d = terminal_ends side d.ends d.others
 
 -- the terminals of a call, each by the right pin that it stands at
 abbrev pub call_ends : Pair → Side → CallRow → List (End Node)
@@ -113,16 +128,17 @@ abbrev pub pin_name : Bool → Circuit → ℕ → List ℕ
 pin_name told c k = cond (told && is_pin c k) (folded_bytes (slice_index_or c.nets k [])) []
 
 -- what the first round goes by: a net by being a pin, and by the pin's name where names tell pins
--- apart, a device by class and sizes, a call by its pair
+-- apart, a device by what it is, class and sizes, a call by its pair
 pub data Own : Type 0 where
   OfNet : (is_pin : Bool) (name : List ℕ) → Own
-  OfDevice : (class : List ℕ) (length width : ℕ) → Own
+  OfDevice : (kind : DeviceKind) (class sizes : List ℕ) → Own
   OfCall : (pair : ℕ) → Own
   OfNone : Own
 
 abbrev pub same_own : Own → Own → Bool
 same_own (OfNet a m) (OfNet b n) = beq a b && bytes_eq m n
-same_own (OfDevice c l w) (OfDevice d m v) = bytes_eq c d && ((l == m) && (w == v))
+same_own (OfDevice k c s) (OfDevice j d t) =
+    same_device_kind k j && (bytes_eq c d && bytes_eq s t)
 same_own (OfCall p) (OfCall q) = p == q
 same_own OfNone OfNone = true
 same_own a b = false
@@ -133,7 +149,7 @@ own_at p side Net k =
 own_at p side Device k =
     elim (slice_get (circuit_of p side).devices k) [
       | None ↦ OfNone
-      | Some d ↦ OfDevice d.class d.length d.width
+      | Some d ↦ OfDevice d.kind d.class d.sizes
     ]
 own_at p side Call k =
     elim (slice_get (circuit_of p side).calls k) [ None ↦ OfNone | Some c ↦ OfCall c.circuit ]
@@ -164,16 +180,9 @@ pub record Pairing : Type 0 where
   pub devices : List ℕ
   pub calls : List ℕ
 
--- class and sizes are kept; gate and bulk go to gate and bulk; source and drain go to the two, in
--- either order
-pub record IsDeviceImage (nets : List ℕ) (d e : DeviceRow) : Type 0 where
-  pub class : d.class ≡ e.class
-  pub length : d.length ≡ e.length
-  pub width : d.width ≡ e.width
-  pub gate : slice_index nets d.gate ≡ e.gate
-  pub bulk : slice_index nets d.bulk ≡ e.bulk
-  pub channel : ((slice_index nets d.source ≡ e.source) × (slice_index nets d.drain ≡ e.drain))
-      ⊎ ((slice_index nets d.source ≡ e.drain) × (slice_index nets d.drain ≡ e.source))
+-- the same device, where each net has gone to its right one
+abbrev pub IsDeviceImage : List ℕ → DeviceRow → DeviceRow → Type 0
+IsDeviceImage nets d e = AreRowsAlike (λ n m. slice_index nets n ≡ m) d e
 
 -- the same pair is called, and the net at left pin i goes to the net at the paired right pin; a
 -- call of a pair that isn't matched has no image

@@ -1,28 +1,13 @@
 -- Rows of circuits as plain records.
 use Rattle.std.specs.Prelude.{◌≡◌, ◌<◌, ℕ, List, Option, Some, length, slice_get, slice_index}
+use Rattle.plain_netlist.specs.Lists.{IsListed}
+use Rattle.plain_netlist.specs.Devices.{terminal_nets}
 use Rattle.plain_netlist.specs.Netlist.{DeviceRow, CallRow, Circuit}
 use Rattle.match_laws.specs.Circuits.{IsOneToOne}
-use Rattle.match_parts.specs.declared.rows.DeviceView.{DeviceView}
-
--- the row as a plain one
-abbrev pub device_of : DeviceView → DeviceRow
-device_of d = record {
-  class = d.class.now;
-  length = d.length;
-  width = d.width;
-  source =
-      d.source;
-  gate = d.gate;
-  drain = d.drain;
-  bulk = d.bulk;
-}
 
 -- the terminals stand on nets below n
-pub record AreTerminalsBelow (d : DeviceRow) (n : ℕ) : Type 0 where
-  pub source : d.source < n
-  pub gate : d.gate < n
-  pub drain : d.drain < n
-  pub bulk : d.bulk < n
+abbrev pub AreTerminalsBelow : DeviceRow → ℕ → Type 0
+AreTerminalsBelow d n = (m : ℕ) → IsListed m (terminal_nets d) → m < n
 
 -- each entry is below n
 abbrev pub AreBelow : List ℕ → ℕ → Type 0

@@ -14,9 +14,9 @@ use Rattle.match_graph.specs.Graph.{plain_port, plain_end}
 use Rattle.match_rounds.specs.declared.classes.Classes.{Classes}
 use Rattle.match_rounds.specs.declared.groups.Part.{Part}
 use Rattle.match_rounds.specs.Pieces.{entry, AreLoose, ArePartedBy, HasCount, HaveOneCount}
-use Rattle.match_rounds.specs.Touching.{port_rank, end_at, AreInOrder, IsPortRun, IsPortStart, AreParts, count_at}
+use Rattle.match_rounds.specs.Touching.{end_at, AreInOrder, IsPortRun, IsPortStart, AreParts, count_at}
 use Rattle.match_rounds.specs.Looking.{HaveOneTouch, ArePortsDone, touches, ArePartedByEnds}
-use Rattle.match_rounds.proofs.PartCounts.{counted, in_run, one_plain, one_port, squeezed}
+use Rattle.match_rounds.proofs.PartCounts.{counted, in_run, one_plain, squeezed}
 
 -- one that passes, where some do
 some_passes : (q : End → Bool) (ends : List End) → 0 < count_by q ends → (k : ℕ) × (k < length ends) × (q (end_at ends k) ≡ true)
@@ -90,8 +90,7 @@ next_start : (ends : List End) (i j : ℕ) → AreInOrder ends → IsPortRun end
 next_start ends i j order run start lj k lk e = elim (cases_lt k i) [
   | inl l ↦
       let some = run.some in
-      start k l (sym (one_port (end_at ends i).port (end_at ends k).port
-      (squeezed (end_at ends k) (end_at ends i) (end_at ends j) (order k i (omega arith) (omega arith)) (order i j (omega arith) lj) (ap port_rank (sym e)))))
+      start k l (sym (squeezed (end_at ends k) (end_at ends i) (end_at ends j) (order k i (omega arith) (omega arith)) (order i j (omega arith) lj) (sym e)))
   | inr l ↦ run.next lj (sym e ∙ run.port k l lk)
 ]
 

@@ -2,18 +2,29 @@
 use Rattle.std.proofs.Common.{◌≡◌, ◌≢◌, inl, inr, ◌<◌, ◌≤◌, ◌+◌, ◌-◌, ℕ, List, [], ◌∷◌, ◌++◌, length, refl, sym, subst, ◌∙◌, ap, arith, length-append}
 use Rattle.std.proofs.lemmas.Bool.{cases_lt}
 use Rattle.std.proofs.lemmas.List.{get_or_push, get_or_append_left}
+use Rattle.match_graph.specs.declared.graph.Port.{Port}
 use Rattle.match_graph.specs.declared.graph.End.{End}
 use Rattle.match_rounds.specs.declared.classes.Classes.{Classes}
 use Rattle.match_rounds.specs.declared.groups.Part.{Part}
 use Rattle.match_rounds.specs.Classes.{class_in}
 use Rattle.match_rounds.specs.Pieces.{entry}
-use Rattle.match_rounds.specs.Touching.{port_rank, end_at, IsNoLaterEnd, AreInOrder, IsRun, IsPortRun, IsPart, AreParts}
+use Rattle.match_rounds.specs.Touching.{IsPortBefore, end_at, IsNoLaterEnd, AreInOrder, IsRun, IsPortRun, IsPart, AreParts}
+
+-- no port stands before another and behind it
+pub one_way : (p q : Port) → IsPortBefore p q → IsPortBefore q p → ⊥
+one_way p q (inl a) (inl b) = omega arith
+one_way p q (inl a) (inr b) = let c = b.0 in omega arith
+one_way p q (inr a) (inl b) = let c = a.0 in omega arith
+one_way p q (inr a) (inr b) = let c = a.1 in let d = b.1 in omega arith
+
+not_itself : (p : Port) → IsPortBefore p p → ⊥
+not_itself p h = one_way p p h h
 
 -- what stands between two ends of one port and node has that node
-between : (d e f : End) → IsNoLaterEnd d e → IsNoLaterEnd e f → port_rank d.port ≡ port_rank f.port → d.node ≡ f.node → d.node ≡ e.node
-between d e f (inl a) (inl b) p n = absurd (omega arith)
-between d e f (inl a) (inr b) p n = let c = b.0 in absurd (omega arith)
-between d e f (inr a) (inl b) p n = let c = a.0 in absurd (omega arith)
+between : (d e f : End) → IsNoLaterEnd d e → IsNoLaterEnd e f → d.port ≡ f.port → d.node ≡ f.node → d.node ≡ e.node
+between d e f (inl a) (inl b) p n = absurd (one_way d.port e.port a (subst (IsPortBefore e.port) (sym p) b))
+between d e f (inl a) (inr b) p n = absurd (not_itself e.port (subst (λ (q : Port). IsPortBefore q e.port) (p ∙ sym b.0) a))
+between d e f (inr a) (inl b) p n = absurd (not_itself f.port (subst (λ (q : Port). IsPortBefore q f.port) (sym a.0 ∙ p) b))
 between d e f (inr a) (inr b) p n = let c = a.1 in let g = b.1 in omega arith
 
 -- a run that ends no later than i has another node than end i
@@ -24,7 +35,7 @@ apart ends from to i b t order h li lb run lt same =
     let pb = h.port b lb (omega arith) in
     let pt = h.port t (omega arith) (omega arith) in
     let pi = h.port i (omega arith) li in
-    let node = between (end_at ends b) (end_at ends t) (end_at ends i) (order b t (omega arith) (omega arith)) (order t i lt (omega arith)) (ap port_rank (pb ∙ sym pi)) same in
+    let node = between (end_at ends b) (end_at ends t) (end_at ends i) (order b t (omega arith) (omega arith)) (order t i lt (omega arith)) (pb ∙ sym pi) same in
     run.next (omega arith) (pt ∙ sym pb) (sym node)
 
 wider : (c : Classes) (ends : List End) (from i j : ℕ) (p : Part) → i ≤ j → IsPart c ends from i p → IsPart c ends from j p

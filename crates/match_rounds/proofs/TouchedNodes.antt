@@ -29,7 +29,7 @@ of_members g h (x ∷ xs) below e i = elim (in_either e (ends_at g x) (flat_map 
 pub nodes_below : (g : Graph) (xs : List ℕ) (es : List End) → IsGraph g → ((i : ℕ) → i < length xs → slice_index xs i < nodes_of g) → IsPermutation (flat_map (ends_at g) xs) es
     → (k : ℕ) → k < length es → (end_at es k).node < nodes_of g
 nodes_below g xs es h below perm k l =
-    let r = reordered (flat_map (ends_at g) xs) es (end port.Channel 0) perm in
+    let r = reordered (flat_map (ends_at g) xs) es (end port.EitherEnd 0) perm in
     let long = r.long in
     subst (λ (e : End). e.node < nodes_of g) (sym (r.is k (omega arith)))
     (of_members g h xs below (end_at (flat_map (ends_at g) xs) (r.from k)) (listed_at (flat_map (ends_at g) xs) (r.from k) (r.from_below k (omega arith))))

@@ -12,20 +12,28 @@ use Rattle.match_rounds.specs.declared.groups.Part.{Part}
 use Rattle.match_rounds.specs.Classes.{class_in}
 use Rattle.match_rounds.specs.Pieces.{entry}
 
--- the ports in order
-abbrev pub port_rank : Port → ℕ
-port_rank port.Channel = 0
-port_rank port.Gate = 1
-port_rank port.Bulk = 2
-port_rank (port.Pin i) = 3 + i
+-- ports in order: the ends, then other terminals by place, then pins by number
+abbrev pub port_group : Port → ℕ
+port_group port.EitherEnd = 0
+port_group (port.Other k) = 1
+port_group (port.Pin i) = 2
+
+abbrev pub port_number : Port → ℕ
+port_number port.EitherEnd = 0
+port_number (port.Other k) = k
+port_number (port.Pin i) = i
+
+-- p stands before q
+abbrev pub IsPortBefore : Port → Port → Type 0
+IsPortBefore p q = (port_group p < port_group q) ⊎ ((port_group p ≡ port_group q)
+    × (port_number p < port_number q))
 
 abbrev pub end_at : List End → ℕ → End
-end_at ends i = slice_index_or ends i (end port.Channel 0)
+end_at ends i = slice_index_or ends i (end port.EitherEnd 0)
 
 -- d stands before e, or they are equal
 abbrev pub IsNoLaterEnd : End → End → Type 0
-IsNoLaterEnd d e = (port_rank d.port < port_rank e.port) ⊎ ((port_rank d.port ≡ port_rank e.port)
-    × (d.node ≤ e.node))
+IsNoLaterEnd d e = IsPortBefore d.port e.port ⊎ ((d.port ≡ e.port) × (d.node ≤ e.node))
 
 abbrev pub AreInOrder : List End → Type 0
 AreInOrder ends = (i j : ℕ) → i ≤ j → j < length ends → IsNoLaterEnd (end_at ends i) (end_at ends j)

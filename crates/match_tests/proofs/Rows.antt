@@ -1,5 +1,5 @@
 -- Rows that were looked at, and circuits that fit.
-use Rattle.std.proofs.Common.{◌≡◌, inl, inr, ℕ, suc, ◌+◌, ◌<◌, List, [], ◌∷◌, Option, Some, length, map, slice_get, slice_index, get_or, sym, subst, ◌∙◌, ap, arith}
+use Rattle.std.proofs.Common.{◌≡◌, inl, inr, ℕ, suc, ◌+◌, ◌<◌, List, [], ◌∷◌, Option, Some, length, map, slice_get, slice_index, get_or, sym, subst, ◌∙◌, arith}
 use Rattle.std.proofs.Math.Decide.{ℕ_discrete}
 use Rattle.std.proofs.lemmas.Option.{same_Some, slice_get_within}
 use Rattle.std.proofs.lemmas.List.{length-map}
@@ -8,6 +8,7 @@ use Rattle.plain_netlist.specs.Netlist.{DeviceRow}
 use Rattle.round_laws.specs.Nodes.{Side, Layout, Schematic}
 use Rattle.round_laws.specs.Web.{End}
 use Rattle.round_laws.specs.Nodes.{Node}
+use Rattle.match_laws.proofs.Images.{device_net}
 use Rattle.match_laws.specs.Circuits.{Pair, IsFitting, device_ends}
 use Rattle.match_parts.proofs.Read.{row}
 use Rattle.match_parts.specs.Rows.{AreBelow, AreTerminalsBelow}
@@ -39,24 +40,13 @@ fitting c children ds cs = record {
   pins = λ k r e. let w = slice_get_within (plain_circuit c).calls k r e in let n : length (plain_circuit c).calls ≡ length c.calls.items = length-map c.calls.items _ in (cs k r (omega arith) e).1;
 }
 
-listed_below : (xs : List ℕ) (n x : ℕ) → AreBelow xs n → IsListed x xs → x < n
+pub listed_below : (xs : List ℕ) (n x : ℕ) → AreBelow xs n → IsListed x xs → x < n
 listed_below [] n x h i = absurd i
 listed_below (y ∷ ys) n x h (inl e) = subst (λ (z : ℕ). z < n) (sym e) (h 0 (omega arith))
 listed_below (y ∷ ys) n x h (inr i) = listed_below ys n x (λ j l. h (suc j) (omega arith)) i
 
 ends_below : (side : Side) (d : DeviceRow) (n : ℕ) (e : End Node) → AreTerminalsBelow d n → IsListed e (device_ends side d) → e.node.number < n
-ends_below side d n e h i =
-    let num : End Node → ℕ = λ u. u.node.number in
-    elim i [
-      | inl a ↦ subst (λ (z : ℕ). z < n) (sym (ap num a)) h.source
-      | inr j ↦ elim j [
-        | inl a ↦ subst (λ (z : ℕ). z < n) (sym (ap num a)) h.gate
-        | inr k ↦ elim k [
-          | inl a ↦ subst (λ (z : ℕ). z < n) (sym (ap num a)) h.drain
-          | inr m ↦ elim m [ inl a ↦ subst (λ (z : ℕ). z < n) (sym (ap num a)) h.bulk | inr z ↦ absurd z ]
-        ]
-      ]
-    ]
+ends_below side d n e h i = h e.node.number (device_net side d e i).listed
 
 pub fits_left : (p : Pair) → IsFit p.left p.children → IsFitting p Layout
 fits_left p h = record {

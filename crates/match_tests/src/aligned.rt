@@ -7,7 +7,7 @@ use job_board::{Crew, OpenGate};
 use net_align::{Aligned, align};
 use net_model::Netlist;
 use net_names::Name;
-use spice_text::{fits_cards, write_spice};
+use spice_text::write_spice;
 use std::alloc::Global;
 use std::test::Fail;
 use std::thread::Threads;
@@ -41,8 +41,5 @@ pub fn aligned<R: Threads>(
 
 /// A side of two as SPICE text.
 pub fn text_of(alloc: Global, side: &Netlist) -> Result<Vec<u8>, Fail> {
-    if !fits_cards(side) {
-        return Err(Fail::from("no card holds it"));
-    }
     Ok(write_spice(alloc, side)?)
 }

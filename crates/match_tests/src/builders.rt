@@ -3,6 +3,7 @@
 use fixed_num::Femto;
 use net_model::{Circuit, DeviceRow};
 use net_names::Name;
+use plain_netlist::DeviceKind;
 use std::alloc::{AllocError, Global};
 
 pub fn name(alloc: Global, text: &[u8]) -> Result<Name, AllocError> {
@@ -40,13 +41,10 @@ pub fn transistor(
     on: [u32; 4],
 ) -> Result<(), AllocError> {
     circuit.devices.push(DeviceRow {
+        kind: DeviceKind::Mos4,
         class: name(alloc, class)?,
-        length: Femto(100_000_000),
-        width: Femto(width),
-        source: on[0],
-        gate: on[1],
-        drain: on[2],
-        bulk: on[3],
+        sizes: [Femto(100_000_000), Femto(width)],
+        nets: [on[2], on[1], on[0], on[3]],
     })?;
     Ok(())
 }

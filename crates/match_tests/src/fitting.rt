@@ -54,8 +54,7 @@ fn devices_fit(circuit: &Circuit) -> bool
 fn device_fits(device: &DeviceRow, count: usize) -> bool
     ensures { result ≡ true → AreTerminalsBelow (plain_device device.now) count }
 {
-    let sides = (device.source as usize) < count && (device.drain as usize) < count;
-    sides && (device.gate as usize) < count && (device.bulk as usize) < count
+    are_below(device.terminal_nets(), count)
 }
 
 fn calls_fit(alloc: Global, circuit: &Circuit, children: &ChildPins) -> Result<bool, AllocError>

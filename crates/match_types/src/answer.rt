@@ -14,7 +14,7 @@ pub enum NodeKind {
     Call,
 }
 
-/// A net, transistor or call of one side, by its number.
+/// A net, device or call of one side, by its number.
 #[derive(Clone, Copy, Debug, PartialEq, Eq)]
 pub struct Node {
     pub side: Side,
@@ -40,7 +40,7 @@ pub struct Guess {
     pub end: GuessEnd,
 }
 
-/// The right number of each left net, transistor and call.
+/// The right number of each left net, device and call.
 #[derive(Debug, Drop)]
 pub struct Pairing {
     pub nets: Vec<u32>,

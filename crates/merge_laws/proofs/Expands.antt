@@ -1,15 +1,17 @@
 -- What a merged circuit expands to is, when merged, what the given one expands to, when merged.
-use Rattle.std.proofs.Common.{◌≡◌, inl, inr, ℕ, ◌+◌, true, false, List, [], ◌∷◌, ◌++◌, map, refl, sym, ◌∙◌, ap, subst, arith, true≢false}
+use Rattle.std.proofs.Common.{◌≡◌, inl, inr, ℕ, ◌+◌, true, false, suc, ◌<◌, length, List, [], ◌∷◌, ◌++◌, map, refl, sym, ◌∙◌, ap, subst, arith, true≢false}
 use Rattle.std.proofs.Math.Decide.{ℕ_discrete}
 use Rattle.plain_netlist.specs.Lists.{IsListed, AreApart, AreRising}
-use Rattle.plain_netlist.specs.Netlist.{Source, Gate, Drain, Bulk, DeviceRow, Netlist, Slot, slot, IsEitherJoin, InOneNet, HasDevice, IsOnPin}
-use Rattle.plain_netlist.specs.Flats.{Row, Flat, AreRowsAlike, Corresponds, row_at, expanded}
+use Rattle.plain_netlist.specs.Devices.{Row, AreRowsAlike}
+use Rattle.plain_netlist.proofs.Rows.{rows_same, rows_wider, rows_over}
+use Rattle.plain_netlist.specs.Netlist.{DeviceRow, Netlist, Slot, slot, IsEitherJoin, InOneNet, HasDevice, IsOnPin}
+use Rattle.plain_netlist.specs.Flats.{Flat, Corresponds, row_at, expanded}
 use Rattle.plain_netlist.proofs.Links.{stays, both, back}
 use Rattle.plain_netlist.proofs.Members.{in_left, in_right, either_side}
 use Rattle.plain_netlist.proofs.Once.{one_device}
-use Rattle.merge_laws.specs.Merge.{may_merge, AreAlike, Known, total_width, AreOnce, IsClass, IsMergedWidth, with_width, AreDevicesAlike, merged}
+use Rattle.merge_laws.specs.Merge.{may_merge_row, added_size, with_added, width_of, AreAlike, Known, total_width, AreOnce, IsClass, IsMergedWidth, with_width, AreDevicesAlike, merged}
 use Rattle.merge_laws.specs.Grouped.{is_alike, Placed, Group, members, sum_width, merged_row, merged_netlist, IsGroup, IsMadeOf, MergedExpandsLaw}
-use Rattle.merge_laws.proofs.Alike.{On, alike_turned, alike_through, alike_law}
+use Rattle.merge_laws.proofs.Alike.{On, again, both_merge, alike_merges, alike_turned, alike_through, alike_law}
 use Rattle.merge_laws.proofs.Totals.{one_total}
 use Rattle.merge_laws.proofs.Nets as nets
 
@@ -60,80 +62,76 @@ module _ (nl : Netlist) (t : ℕ) where
 
   -- alike over the merged netlist is alike over the given one, and back
   alike_there : (r s : Row Slot) → Alike r s → AreAlike (InOneNet ml t) r s
-  alike_there r s l = record {
-    merges = l.merges;
-    class = l.class;
-    length = l.length;
-    gate = go (r.net Gate) (s.net Gate) l.gate;
-    bulk = go (r.net Bulk) (s.net Bulk) l.bulk;
-    channel = elim l.channel [
-      | inl c ↦ inl (go (r.net Source) (s.net Source) c.0, go (r.net Drain) (s.net Drain) c.1)
-      | inr c ↦ inr (go (r.net Source) (s.net Drain) c.0, go (r.net Drain) (s.net Source) c.1)
-    ];
-  }
-    where
-      go : (a b : Slot) → InOneNet nl t a b → InOneNet ml t a b
-      go a b h = nets.net_there nl t a b h
+  alike_there r s l = record { merges = l.merges; rows = rows_wider Same (InOneNet ml t) (λ a b h. nets.net_there nl t a b h) (with_width r 0) (with_width s 0) l.rows }
 
   alike_here : (r s : Row Slot) → AreAlike (InOneNet ml t) r s → Alike r s
-  alike_here r s l = record {
-    merges = l.merges;
-    class = l.class;
-    length = l.length;
-    gate = go (r.net Gate) (s.net Gate) l.gate;
-    bulk = go (r.net Bulk) (s.net Bulk) l.bulk;
-    channel = elim l.channel [
-      | inl c ↦ inl (go (r.net Source) (s.net Source) c.0, go (r.net Drain) (s.net Drain) c.1)
-      | inr c ↦ inr (go (r.net Source) (s.net Drain) c.0, go (r.net Drain) (s.net Source) c.1)
-    ];
-  }
-    where
-      go : (a b : Slot) → InOneNet ml t a b → InOneNet nl t a b
-      go a b h = nets.net_back nl t a b h
+  alike_here r s l = record { merges = l.merges; rows = rows_wider (InOneNet ml t) Same (λ a b h. nets.net_back nl t a b h) (with_width r 0) (with_width s 0) l.rows }
+
+  merges_with : (r s : Row Slot) → Alike r s → may_merge_row s ≡ true
+  merges_with r s l = sym (alike_merges Same r s l) ∙ l.merges
 
   stay : (a b : Slot) → a ≡ b → Same a b
   stay a b e = stays (IsEitherJoin nl t) a b e
 
   -- alike rows of one circuit are alike at the end of a path; the width is of no account
   alike_at : (path : List ℕ) (g : Group) (b : DeviceRow) → On g.first.row b → Alike (row_at path (merged_row g)) (row_at path b)
-  alike_at path g b l = record {
-    merges = l.merges;
-    class = l.class;
-    length = l.length;
-    gate = stay (slot path g.first.row.gate) (slot path b.gate) (ap (slot path) l.gate);
-    bulk = stay (slot path g.first.row.bulk) (slot path b.bulk) (ap (slot path) l.bulk);
-    channel = elim l.channel [
-      | inl c ↦ inl (stay (slot path g.first.row.source) (slot path b.source) (ap (slot path) c.0), stay (slot path g.first.row.drain) (slot path b.drain) (ap (slot path) c.1))
-      | inr c ↦ inr (stay (slot path g.first.row.source) (slot path b.drain) (ap (slot path) c.0), stay (slot path g.first.row.drain) (slot path b.source) (ap (slot path) c.1))
-    ];
-  }
+  alike_at path g b l =
+      let r = rows_over (λ (m n : ℕ). m ≡ n) Same (slot path) (slot path) (λ m n e. stay (slot path m) (slot path n) (ap (slot path) e)) (with_width g.first.row 0) (with_width b 0) l.rows in
+      record {
+        merges = l.merges;
+        rows = record { kind = r.kind; class = r.class; sizes = again g.first.row.sizes (sum_width (members g)) 0 ∙ r.sizes; ends = r.ends; others = r.others };
+      }
 
-  itself : (a : DeviceRow) → may_merge a.class ≡ true → On a a
-  itself a m = record { merges = m; class = refl; length = refl; gate = refl; bulk = refl; channel = inl (refl, refl) }
+  -- a member is its group's first but for the width
+  member_rows : (path : List ℕ) (j : ℕ) (g : Group) (d : Placed) → At path j g → IsListed d (members g) → AreRowsAlike (λ (m n : ℕ). m ≡ n) (with_width g.first.row 0) (with_width d.row 0)
+  member_rows path j g d at (inl e) = subst (λ (z : Placed). AreRowsAlike (λ (m n : ℕ). m ≡ n) (with_width g.first.row 0) (with_width z.row 0)) (sym e) (rows_same (λ (m n : ℕ). m ≡ n) (λ n. refl) (with_width g.first.row 0))
+  member_rows path j g d at (inr i) = (alike_law g.first.row d.row (nets.group_alike nl path t j g d at i)).rows
 
-  member_on : (path : List ℕ) (j : ℕ) (g : Group) (d : Placed) → At path j g → IsListed d (members g) → may_merge g.first.row.class ≡ true → On g.first.row d.row
-  member_on path j g d at (inl e) m = subst (λ (z : Placed). On g.first.row z.row) (sym e) (itself g.first.row m)
-  member_on path j g d at (inr i) m = alike_law g.first.row d.row (nets.group_alike nl path t j g d at i)
+  itself : (a : DeviceRow) → may_merge_row a ≡ true → On a a
+  itself a m = record { merges = m; rows = rows_same (λ (m n : ℕ). m ≡ n) (λ n. refl) (with_width a 0) }
 
-  member_alike : (path : List ℕ) (j : ℕ) (g : Group) (d : Placed) → At path j g → IsListed d (members g) → may_merge g.first.row.class ≡ true → Alike (row_at path (merged_row g)) (row_at path d.row)
+  member_on : (path : List ℕ) (j : ℕ) (g : Group) (d : Placed) → At path j g → IsListed d (members g) → may_merge_row g.first.row ≡ true → On g.first.row d.row
+  member_on path j g d at i m = record { merges = m; rows = member_rows path j g d at i }
+
+  member_alike : (path : List ℕ) (j : ℕ) (g : Group) (d : Placed) → At path j g → IsListed d (members g) → may_merge_row g.first.row ≡ true → Alike (row_at path (merged_row g)) (row_at path d.row)
   member_alike path j g d at i m = alike_at path g d.row (member_on path j g d at i m)
 
-  -- a member has its group's class, also where that may not merge
-  member_class : (path : List ℕ) (j : ℕ) (g : Group) (d : Placed) → At path j g → IsListed d (members g) → g.first.row.class ≡ d.row.class
-  member_class path j g d at (inl e) = ap (λ (z : Placed). z.row.class) (sym e)
-  member_class path j g d at (inr i) = (alike_law g.first.row d.row (nets.group_alike nl path t j g d at i)).class
+  -- a member may merge where its group may
+  member_merges : (path : List ℕ) (j : ℕ) (g : Group) (d : Placed) → At path j g → IsListed d (members g) → may_merge_row g.first.row ≡ may_merge_row d.row
+  member_merges path j g d at i = both_merge (λ (m n : ℕ). m ≡ n) (with_width g.first.row 0) (with_width d.row 0) (member_rows path j g d at i)
 
-  alone : (path : List ℕ) (j : ℕ) (g : Group) → At path j g → may_merge g.first.row.class ≡ false → g.others ≡ []
+  alone : (path : List ℕ) (j : ℕ) (g : Group) → At path j g → may_merge_row g.first.row ≡ false → g.others ≡ []
   alone path j g at m = of g.others (λ d i. nets.group_alike nl path t j g d at i)
     where
       of : (ds : List Placed) → ((d : Placed) → IsListed d ds → is_alike g.first.row d.row ≡ true) → ds ≡ []
       of [] each = refl
       of (d ∷ ds) each = absurd (true≢false (sym (alike_law g.first.row d.row (each d (inl refl))).merges ∙ m))
 
-  alone_width : (path : List ℕ) (j : ℕ) (g : Group) → At path j g → may_merge g.first.row.class ≡ false → sum_width (members g) ≡ g.first.row.width
+  alone_width : (path : List ℕ) (j : ℕ) (g : Group) → At path j g → may_merge_row g.first.row ≡ false → sum_width (members g) ≡ width_of g.first.row
   alone_width path j g at m =
-      let e : sum_width (members g) ≡ g.first.row.width + 0 = ap (λ ds. g.first.row.width + sum_width ds) (alone path j g at m) in
+      let e : sum_width (members g) ≡ width_of g.first.row + 0 = ap (λ ds. width_of g.first.row + sum_width ds) (alone path j g at m) in
       omega arith
+
+  -- the width of a group's row is the sum over its members, also where rows have no width
+  group_width : (path : List ℕ) (j : ℕ) (g : Group) → At path j g → width_of (merged_row g) ≡ sum_width (members g)
+  group_width path j g at = of g.first.row.sizes g.others (λ d i. (member_rows path j g d at (inr i)).sizes)
+    where
+      none : (s z : List ℕ) → with_added s 0 ≡ s → length s < 2 → s ≡ with_added z 0 → added_size z ≡ 0
+      none s [] f low e = refl
+      none s (a ∷ []) f low e = refl
+      none s (a ∷ b ∷ m) f low e = let n : length s ≡ suc (suc (length m)) = ap length e in absurd (omega arith)
+
+      none_all : (s : List ℕ) → with_added s 0 ≡ s → length s < 2 → (ds : List Placed) → ((d : Placed) → IsListed d ds → with_added s 0 ≡ with_added d.row.sizes 0) → sum_width ds ≡ 0
+      none_all s f low [] each = refl
+      none_all s f low (d ∷ ds) each =
+          let h = none s d.row.sizes f low (sym f ∙ each d (inl refl)) in
+          let rest = none_all s f low ds (λ e i. each e (inr i)) in
+          omega arith
+
+      of : (s : List ℕ) (ds : List Placed) → ((d : Placed) → IsListed d ds → with_added s 0 ≡ with_added d.row.sizes 0) → added_size (with_added s (added_size s + sum_width ds)) ≡ added_size s + sum_width ds
+      of [] ds each = let z = none_all [] refl (omega arith) ds each in omega arith
+      of (x ∷ []) ds each = let z = none_all (x ∷ []) refl (omega arith) ds each in omega arith
+      of (x ∷ y ∷ s) ds each = refl
 
   abbrev known : List ℕ → Placed → Known Slot Slot
   known path d = record { name = slot path d.place; row = row_at path d.row }
@@ -186,7 +184,7 @@ module _ (nl : Netlist) (t : ℕ) where
               let r = listed_map (known path) (members g.0) x i in
               let s = rest.1.from y j in
               o.0 s.0 s.1 (apart_from n s.0 x y g.0 r.0 g.1 r.1 r.2 e s.2));
-          widths = let a = total_on path (members g.0) rest.0 in let b = rest.1.widths in let c : n.row.width ≡ sum_width (members g.0) = ap (λ (z : Row Slot). z.width) row in omega arith;
+          widths = let a = total_on path (members g.0) rest.0 in let b = rest.1.widths in let c : width_of n.row ≡ sum_width (members g.0) = ap (λ (z : Row Slot). width_of z) row ∙ group_width path n.name.net g.0 g.1 in omega arith;
         },
       )
     where
@@ -219,7 +217,7 @@ module _ (nl : Netlist) (t : ℕ) where
       ours m (n, j, (g, d, at, k, e, row)) =
           let near : Alike r n.row = alike_here r n.row (is.each n j).1 in
           let near_row : Alike r (row_at n.name.path (merged_row g)) = subst (λ (z : Row Slot). Alike r z) row near in
-          let merges : may_merge g.first.row.class ≡ true = subst (λ c. may_merge c ≡ true) near_row.class near_row.merges in
+          let merges : may_merge_row g.first.row ≡ true = merges_with r (row_at n.name.path (merged_row g)) near_row in
           let far = member_alike n.name.path n.name.net g d at k merges in
           let all : Alike s (row_at n.name.path d.row) = through s r (row_at n.name.path d.row) (turned r s like) (through r (row_at n.name.path (merged_row g)) (row_at n.name.path d.row) near_row far) in
           subst (λ (z : Known Slot Slot). F.has_device z.name z.row × Alike s z.row) (sym e)
@@ -230,8 +228,7 @@ module _ (nl : Netlist) (t : ℕ) where
           let g = nets.in_group nl a.path t a.net row has in
           let d : Placed = record { place = a.net; row = row } in
           let near : Alike s (row_at a.path row) = subst (λ (z : Row Slot). Alike s z) e l in
-          let class = member_class a.path g.0 g.1 d g.2 g.3 in
-          let merges : may_merge g.1.first.row.class ≡ true = subst (λ c. may_merge c ≡ true) (near.class ∙ sym class) near.merges in
+          let merges : may_merge_row g.1.first.row ≡ true = member_merges a.path g.0 g.1 d g.2 g.3 ∙ merges_with s (row_at a.path row) near in
           let mid = member_alike a.path g.0 g.1 d g.2 g.3 merges in
           let up : Alike r (row_at a.path (merged_row g.1)) = through r s (row_at a.path (merged_row g.1)) like (through s (row_at a.path row) (row_at a.path (merged_row g.1)) near (turned (row_at a.path (merged_row g.1)) (row_at a.path row) mid)) in
           let n = is.all (slot a.path g.0) (row_at a.path (merged_row g.1)) (merged_row g.1, nets.group_has nl a.path t g.0 g.1 g.2, refl) (alike_there r (row_at a.path (merged_row g.1)) up) in
@@ -353,7 +350,7 @@ module _ (nl : Netlist) (t : ℕ) where
           let first : F.has_device (slot n.name.path g.first.place) (row_at n.name.path g.first.row) = (g.first.row, nets.member_has nl n.name.path t n.name.net g g.first at (inl refl), refl) in
           let one : m ≡ known_by (slot n.name.path g.first.place) (row_at n.name.path g.first.row) = one_row m (known_by (slot n.name.path g.first.place) (row_at n.name.path g.first.row)) it.0 first names in
           let near : Alike s (row_at n.name.path g.first.row) = subst (λ (z : Known Slot Slot). Alike s z.row) one it.1 in
-          let merges : may_merge g.first.row.class ≡ true = subst (λ c. may_merge c ≡ true) near.class near.merges in
+          let merges : may_merge_row g.first.row ≡ true = merges_with s (row_at n.name.path g.first.row) near in
           let mid = member_alike n.name.path n.name.net g g.first at (inl refl) merges in
           let all : Alike r (row_at n.name.path (merged_row g)) = through r s (row_at n.name.path (merged_row g)) like (through s (row_at n.name.path g.first.row) (row_at n.name.path (merged_row g)) near (turned (row_at n.name.path (merged_row g)) (row_at n.name.path g.first.row) mid)) in
           ((merged_row g, nets.group_has nl n.name.path t n.name.net g at, e), alike_there r n.row (subst (λ (z : Row Slot). Alike r z) (sym e) all))
@@ -362,7 +359,7 @@ module _ (nl : Netlist) (t : ℕ) where
       theirs a u (row, has, e) l =
           let g = nets.has_group nl a.path t a.net row has in
           let near : Alike r (row_at a.path (merged_row g.0)) = subst (λ (z : Row Slot). Alike r z) (e ∙ ap (row_at a.path) (sym g.2)) l in
-          let merges : may_merge g.0.first.row.class ≡ true = subst (λ c. may_merge c ≡ true) near.class near.merges in
+          let merges : may_merge_row g.0.first.row ≡ true = merges_with r (row_at a.path (merged_row g.0)) near in
           let mid = member_alike a.path a.net g.0 g.0.first g.1 (inl refl) merges in
           let down : Alike s (row_at a.path g.0.first.row) = through s r (row_at a.path g.0.first.row) (turned r s like) (through r (row_at a.path (merged_row g.0)) (row_at a.path g.0.first.row) near mid) in
           let m = is.all (slot a.path g.0.first.place) (row_at a.path g.0.first.row) (g.0.first.row, nets.member_has nl a.path t a.net g.0 g.0.first g.1 (inl refl), refl) down in
@@ -376,11 +373,11 @@ module _ (nl : Netlist) (t : ℕ) where
   width_spread path j g w at (inl (merges, ns, is, e)) =
       let sp = spread ns (λ n i. (is.each n i).0) in
       inl (merges, sp.0, class_spread (row_at path (merged_row g)) (row_at path g.first.row) ns sp.0 (member_alike path j g g.first at (inl refl) merges) is sp.1, e ∙ sp.1.widths)
-  width_spread path j g w at (inr (not, e)) = inr (not, e ∙ alone_width path j g at not)
+  width_spread path j g w at (inr (not, e)) = inr (not, e ∙ (group_width path j g at ∙ alone_width path j g at not))
 
   width_gathered : (path : List ℕ) (j : ℕ) (g : Group) (d : Placed) (w : ℕ) → At path j g → IsListed d (members g) → IsMergedWidth F (row_at path d.row) w → IsMergedWidth G (row_at path (merged_row g)) w
   width_gathered path j g d w at i (inl (merges, ms, is, e)) =
-      let first : may_merge g.first.row.class ≡ true = subst (λ c. may_merge c ≡ true) (sym (member_class path j g d at i)) merges in
+      let first : may_merge_row g.first.row ≡ true = member_merges path j g d at i ∙ merges in
       let like = member_alike path j g d at i first in
       let got = gather ms (λ m k. (is.each m k).0) in
       let all = class_gathered (row_at path (merged_row g)) (row_at path d.row) ms got.0 like is got.1 in
@@ -388,23 +385,22 @@ module _ (nl : Netlist) (t : ℕ) where
       let again = class_spread (row_at path (merged_row g)) (row_at path d.row) got.0 sp.0 like all sp.1 in
       inl (first, got.0, all, e ∙ (class_total (row_at path d.row) ms sp.0 is again ∙ sym sp.1.widths))
   width_gathered path j g d w at i (inr (not, e)) =
-      let first : may_merge g.first.row.class ≡ false = subst (λ c. may_merge c ≡ false) (sym (member_class path j g d at i)) not in
-      let same : d.row.width ≡ g.first.row.width = (elim i [ inl q ↦ ap (λ (z : Placed). z.row.width) q | inr k ↦ absurd (let z : IsListed d [] = subst (λ ds. IsListed d ds) (alone path j g at first) k in z) ]) in
-      inr (first, e ∙ (same ∙ sym (alone_width path j g at first)))
+      let first : may_merge_row g.first.row ≡ false = member_merges path j g d at i ∙ not in
+      let same : width_of d.row ≡ width_of g.first.row = (elim i [ inl q ↦ ap (λ (z : Placed). width_of z.row) q | inr k ↦ absurd (let z : IsListed d [] = subst (λ ds. IsListed d ds) (alone path j g at first) k in z) ]) in
+      inr (first, e ∙ (same ∙ sym (group_width path j g at ∙ alone_width path j g at first)))
 
   -- rows of a group and a member of it, with one width
   rows_alike : (path : List ℕ) (j : ℕ) (g : Group) (d : Placed) (w : ℕ) → At path j g → IsListed d (members g) → AreRowsAlike (λ (a x : Slot). a ≡ x) (with_width (row_at path (merged_row g)) w) (with_width (row_at path d.row) w)
-  rows_alike path j g d w at (inl e) = subst (λ (z : Placed). AreRowsAlike (λ (a x : Slot). a ≡ x) (with_width (row_at path (merged_row g)) w) (with_width (row_at path z.row) w)) (sym e)
-      (record { class = refl; length = refl; width = refl; gate = refl; bulk = refl; channel = inl (refl, refl) })
-  rows_alike path j g d w at (inr i) =
-      let l = alike_law g.first.row d.row (nets.group_alike nl path t j g d at i) in
+  rows_alike path j g d w at i =
+      let sum : ℕ = sum_width (members g) in
+      let l = member_rows path j g d at i in
+      let r = rows_over (λ (m n : ℕ). m ≡ n) (λ (a x : Slot). a ≡ x) (slot path) (slot path) (λ m n e. ap (slot path) e) (with_width g.first.row 0) (with_width d.row 0) l in
       record {
-        class = l.class;
-        length = l.length;
-        width = refl;
-        gate = ap (slot path) l.gate;
-        bulk = ap (slot path) l.bulk;
-        channel = elim l.channel [ inl c ↦ inl (ap (slot path) c.0, ap (slot path) c.1) | inr c ↦ inr (ap (slot path) c.0, ap (slot path) c.1) ];
+        kind = r.kind;
+        class = r.class;
+        sizes = again g.first.row.sizes sum w ∙ (sym (again g.first.row.sizes 0 w) ∙ (ap (λ z. with_added z w) l.sizes ∙ again d.row.sizes 0 w));
+        ends = r.ends;
+        others = r.others;
       }
 
   there : (a : Slot) (r : Row Slot) → (merged G).has_device a r → (x : Slot) × (s : Row Slot) × (merged F).has_device x s × IsMadeOf nl t a x × AreRowsAlike (λ (a x : Slot). a ≡ x) r s
@@ -447,7 +443,7 @@ module _ (nl : Netlist) (t : ℕ) where
       → Alike (row_at a.path (merged_row g)) (row_at b.path (merged_row h)) → AreDevicesAlike F (slot a.path d.place) (slot b.path f.place)
   made_alike a b g h d f at it i j l =
       let left = member_alike a.path a.net g d at i l.merges in
-      let right = member_alike b.path b.net h f it j (subst (λ c. may_merge c ≡ true) l.class l.merges) in (
+      let right = member_alike b.path b.net h f it j (merges_with (row_at a.path (merged_row g)) (row_at b.path (merged_row h)) l) in (
         slot a.path d.place,
         slot b.path f.place,
         row_at a.path d.row,
@@ -460,7 +456,7 @@ module _ (nl : Netlist) (t : ℕ) where
             (through (row_at a.path (merged_row g)) (row_at b.path (merged_row h)) (row_at b.path f.row) l right),
       )
 
-  merges_alike : (path : List ℕ) (g : Group) → may_merge g.first.row.class ≡ true → Alike (row_at path (merged_row g)) (row_at path (merged_row g))
+  merges_alike : (path : List ℕ) (g : Group) → may_merge_row g.first.row ≡ true → Alike (row_at path (merged_row g)) (row_at path (merged_row g))
   merges_alike path g m = let one = alike_at path g g.first.row (itself g.first.row m) in through (row_at path (merged_row g)) (row_at path g.first.row) (row_at path (merged_row g)) one (turned (row_at path (merged_row g)) (row_at path g.first.row) one)
 
   -- members of one group are one device or alike
@@ -498,8 +494,8 @@ module _ (nl : Netlist) (t : ℕ) where
           let right : s ≡ row_at b.path f.row = member_row b h f s it j (subst (λ z. F.has_device z s) (sym to_k) has_k) in
           let near : Alike (row_at a.path d.row) s = subst (λ (z : Row Slot). Alike z s) left l in
           let both : Alike (row_at a.path d.row) (row_at b.path f.row) = subst (λ (z : Row Slot). Alike (row_at a.path d.row) z) right near in
-          let merges : may_merge g.first.row.class ≡ true = subst (λ c. may_merge c ≡ true) (sym (member_class a.path a.net g d at i)) both.merges in
-          let others : may_merge h.first.row.class ≡ true = subst (λ c. may_merge c ≡ true) (both.class ∙ sym (member_class b.path b.net h f it j)) both.merges in
+          let merges : may_merge_row g.first.row ≡ true = member_merges a.path a.net g d at i ∙ both.merges in
+          let others : may_merge_row h.first.row ≡ true = member_merges b.path b.net h f it j ∙ merges_with (row_at a.path d.row) (row_at b.path f.row) both in
           let up = member_alike a.path a.net g d at i merges in
           let far = turned (row_at b.path (merged_row h)) (row_at b.path f.row) (member_alike b.path b.net h f it j others) in
           let all : Alike (row_at a.path (merged_row g)) (row_at b.path (merged_row h)) = through (row_at a.path (merged_row g)) (row_at a.path d.row) (row_at b.path (merged_row h)) up (through (row_at a.path d.row) (row_at b.path f.row) (row_at b.path (merged_row h)) both far) in

@@ -1,38 +1,22 @@
 -- Merged flat netlists are the same where the given ones are.
-use Rattle.std.proofs.Common.{◌≡◌, ◌⊎◌, inl, inr, ℕ, true, false, List, [], ◌∷◌, refl, sym, ◌∙◌, subst}
-use Rattle.plain_netlist.specs.Netlist.{Source, Gate, Drain, Bulk}
+use Rattle.std.proofs.Common.{◌≡◌, inl, inr, ℕ, List, [], ◌∷◌, refl, sym, ◌∙◌, ap, subst}
 use Rattle.plain_netlist.specs.Lists.{IsListed}
-use Rattle.plain_netlist.specs.Flats.{Row, Flat, AreRowsAlike, Corresponds, Reversed}
-use Rattle.plain_netlist.proofs.Alike.{reversed, rows_reversed}
-use Rattle.merge_laws.specs.Merge.{may_merge, AreAlike, Known, total_width, AreOnce, IsClass, IsMergedWidth, with_width, merged}
+use Rattle.plain_netlist.specs.Devices.{Row, AreRowsAlike}
+use Rattle.plain_netlist.specs.Flats.{Flat, Corresponds, Reversed, Through}
+use Rattle.plain_netlist.proofs.Rows.{rows_reversed, rows_through, rows_wider}
+use Rattle.plain_netlist.proofs.Alike.{reversed}
+use Rattle.merge_laws.proofs.Alike.{with_one_width, both_merge}
+use Rattle.merge_laws.specs.Merge.{added_size, width_of, AreAlike, Known, total_width, AreOnce, IsClass, IsMergedWidth, with_width, merged}
 
 module _ {D N E M : Type 0} (F : Flat D N) (G : Flat E M) (device : D → E → Type 0) (net : N → M → Type 0) (h : Corresponds F G device net) where
   -- images of alike rows are alike
   pub alike_on : (r t : Row N) (s u : Row M) → AreRowsAlike net r s → AreRowsAlike net t u → AreAlike F.one_net r t → AreAlike G.one_net s u
   alike_on r t s u a b l = record {
-    merges = subst (λ c. may_merge c ≡ true) a.class l.merges;
-    class = sym a.class ∙ (l.class ∙ b.class);
-    length = sym a.length ∙ (l.length ∙ b.length);
-    gate = (h.nets (r.net Gate) (t.net Gate) (s.net Gate) (u.net Gate) a.gate b.gate).0 l.gate;
-    bulk = (h.nets (r.net Bulk) (t.net Bulk) (s.net Bulk) (u.net Bulk) a.bulk b.bulk).0 l.bulk;
-    channel = ends a.channel b.channel l.channel;
+    merges = sym (both_merge net r s a) ∙ l.merges;
+    rows = rows_wider (Through (Reversed net) (Through F.one_net net)) G.one_net (λ x y k. (h.nets k.0 k.2.0 x y k.1 k.2.2).0 k.2.1) (with_width s 0) (with_width u 0)
+        (rows_through (Reversed net) (Through F.one_net net) (with_width s 0) (with_width r 0) (with_width u 0) (rows_reversed net (with_width r 0) (with_width s 0) (with_one_width net 0 r s a))
+        (rows_through F.one_net net (with_width r 0) (with_width t 0) (with_width u 0) l.rows (with_one_width net 0 t u b)));
   }
-    where
-      go : (m n : N) (x y : M) → net m x → net n y → F.one_net m n → G.one_net x y
-      go m n x y p q e = (h.nets m n x y p q).0 e
-
-      ends : (net (r.net Source) (s.net Source) × net (r.net Drain) (s.net Drain)) ⊎ (net (r.net Source) (s.net Drain) × net (r.net Drain) (s.net Source))
-          → (net (t.net Source) (u.net Source) × net (t.net Drain) (u.net Drain)) ⊎ (net (t.net Source) (u.net Drain) × net (t.net Drain) (u.net Source))
-          → (F.one_net (r.net Source) (t.net Source) × F.one_net (r.net Drain) (t.net Drain)) ⊎ (F.one_net (r.net Source) (t.net Drain) × F.one_net (r.net Drain) (t.net Source))
-          → (G.one_net (s.net Source) (u.net Source) × G.one_net (s.net Drain) (u.net Drain)) ⊎ (G.one_net (s.net Source) (u.net Drain) × G.one_net (s.net Drain) (u.net Source))
-      ends (inl a) (inl b) (inl l) = inl (go _ _ _ _ a.0 b.0 l.0, go _ _ _ _ a.1 b.1 l.1)
-      ends (inl a) (inl b) (inr l) = inr (go _ _ _ _ a.0 b.1 l.0, go _ _ _ _ a.1 b.0 l.1)
-      ends (inl a) (inr b) (inl l) = inr (go _ _ _ _ a.0 b.0 l.0, go _ _ _ _ a.1 b.1 l.1)
-      ends (inl a) (inr b) (inr l) = inl (go _ _ _ _ a.0 b.1 l.0, go _ _ _ _ a.1 b.0 l.1)
-      ends (inr a) (inl b) (inl l) = inr (go _ _ _ _ a.1 b.1 l.1, go _ _ _ _ a.0 b.0 l.0)
-      ends (inr a) (inl b) (inr l) = inl (go _ _ _ _ a.1 b.0 l.1, go _ _ _ _ a.0 b.1 l.0)
-      ends (inr a) (inr b) (inl l) = inl (go _ _ _ _ a.1 b.1 l.1, go _ _ _ _ a.0 b.0 l.0)
-      ends (inr a) (inr b) (inr l) = inr (go _ _ _ _ a.1 b.0 l.1, go _ _ _ _ a.0 b.1 l.0)
 
 module _ {D N E M : Type 0} (F : Flat D N) (G : Flat E M) (device : D → E → Type 0) (net : N → M → Type 0) (h : Corresponds F G device net) where
   alike_back : (r t : Row N) (s u : Row M) → AreRowsAlike net r s → AreRowsAlike net t u → AreAlike G.one_net s u → AreAlike F.one_net r t
@@ -72,7 +56,7 @@ module _ {D N E M : Type 0} (F : Flat D N) (G : Flat E M) (device : D → E → 
             (λ c i one. let r = rest.1.back c i in o.0 r.0 r.1 ((h.devices d.name r.0.name e.name c.name is.paired r.2.paired).1 one)),
             rest.1.once o.1,
           );
-          widths = let a : d.row.width ≡ e.row.width = is.rows.width in let b = rest.1.widths in cc;
+          widths = let a : width_of d.row ≡ width_of e.row = ap added_size is.rows.sizes in let b = rest.1.widths in cc;
         },
       )
 
@@ -94,8 +78,8 @@ module _ {D N E M : Type 0} (F : Flat D N) (G : Flat E M) (device : D → E → 
       )
 
   width_on : (r : Row N) (s : Row M) (w : ℕ) → AreRowsAlike net r s → IsMergedWidth F r w → IsMergedWidth G s w
-  width_on r s w rows (inl (merges, ds, is, e)) = let k = class_on r s ds rows is in inl (subst (λ c. may_merge c ≡ true) rows.class merges, k.0, k.1, e ∙ k.2)
-  width_on r s w rows (inr (not, e)) = inr (subst (λ c. may_merge c ≡ false) rows.class not, e ∙ rows.width)
+  width_on r s w rows (inl (merges, ds, is, e)) = let k = class_on r s ds rows is in inl (sym (both_merge net r s rows) ∙ merges, k.0, k.1, e ∙ k.2)
+  width_on r s w rows (inr (not, e)) = inr (sym (both_merge net r s rows) ∙ not, e ∙ ap added_size rows.sizes)
 
   pub merged_there : (a : D) (r : Row N) → (merged F).has_device a r → (y : E) × (s : Row M) × (merged G).has_device y s × device a y × AreRowsAlike net r s
   merged_there a r (base, has, w, is, e) =
@@ -104,7 +88,7 @@ module _ {D N E M : Type 0} (F : Flat D N) (G : Flat E M) (device : D → E → 
         with_width y.1 w,
         (y.1, y.2, w, width_on base y.1 w y.4 is, refl),
         y.3,
-        subst (λ (z : Row N). AreRowsAlike net z (with_width y.1 w)) (sym e) (record { class = y.4.class; length = y.4.length; width = refl; gate = y.4.gate; bulk = y.4.bulk; channel = y.4.channel }),
+        subst (λ (z : Row N). AreRowsAlike net z (with_width y.1 w)) (sym e) (with_one_width net w base y.1 y.4),
       )
 
   pub one_on : (a b : D) (x y : E) → device a x → device b y → (merged F).one_device a b → (merged G).one_device x y

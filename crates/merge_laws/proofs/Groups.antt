@@ -1,4 +1,4 @@
--- The groups of a circuit's transistors: each in one, those of one alike, those of two not.
+-- The groups of a circuit's devices: each in one, those of one alike, those of two not.
 use Rattle.std.proofs.Common.{◌≡◌, ◌⊎◌, inl, inr, ℕ, zero, suc, ◌+◌, ◌<◌, Bool, true, false, cond, List, [], ◌∷◌, ◌++◌, map, length, Some, slice_get, refl, sym, ◌∙◌, ap, subst, arith, true≢false}
 use Rattle.base_laws.proofs.Items.{map_from}
 use Rattle.std.proofs.lemmas.Option.{same_Some}
@@ -6,8 +6,8 @@ use Rattle.std.proofs.Math.Decide.{ℕ_discrete}
 use Rattle.plain_netlist.specs.Lists.{IsListed, AreApart}
 use Rattle.plain_netlist.specs.Netlist.{DeviceRow, Circuit}
 use Rattle.plain_netlist.proofs.Members.{in_left, in_right, either_side}
-use Rattle.merge_laws.specs.Grouped.{is_alike, Placed, Group, members, with_device, grouped, groups, merged_row, merged_circuit, UnlikeLaw}
-use Rattle.merge_laws.proofs.Alike.{is_turned, is_through}
+use Rattle.merge_laws.specs.Grouped.{is_alike, Placed, Group, members, sum_width, with_device, grouped, groups, merged_row, merged_circuit, UnlikeLaw}
+use Rattle.merge_laws.proofs.Alike.{is_turned, is_through, widths_apart}
 
 abbrev pub joined : Group → Placed → Group
 joined g d = record { first = g.first; others = g.others ++ d ∷ [] }
@@ -15,7 +15,7 @@ joined g d = record { first = g.first; others = g.others ++ d ∷ [] }
 abbrev pub single : Placed → Group
 single d = record { first = d; others = [] }
 
--- group k is one that the transistor has joined or begun
+-- group k is one that the device has joined or begun
 abbrev pub IsNew : List Group → Placed → ℕ → Group → Type 0
 IsNew gs d k h =
     ((g : Group) × (slice_get gs k ≡ Some g) × (is_alike g.first.row d.row ≡ true) × (h ≡ joined g d))
@@ -41,7 +41,7 @@ from_new (g ∷ gs) d k h e = at (λ i f. from_new gs d i h f) (is_alike g.first
     at rec false a zero f = inl f
     at rec false a (suc k) f = deeper k a (rec k f)
 
--- group k goes on with its members, and the transistor is in one
+-- group k goes on with its members, and the device is in one
 stays : (gs : List Group) (d : Placed) (k : ℕ) (g : Group) → slice_get gs k ≡ Some g
     → (h : Group) × (slice_get (with_device gs d) k ≡ Some h) × ((m : Placed) → IsListed m (members g) → IsListed m (members h))
 stays [] d k g e = absurd (let z : ⊥ = cc in z)
@@ -62,7 +62,7 @@ there (o ∷ gs) d = at (there gs d) (is_alike o.first.row d.row)
     at r true = (0, joined o d, refl, in_right (members o) (d ∷ []) d (inl refl))
     at r false = (suc r.0, r.1, r.2, r.3)
 
--- what the groups of the first n transistors are
+-- what the groups of the first n devices are
 pub record AreGroups (all : List DeviceRow) (n : ℕ) (gs : List Group) : Type 0 where
   pub each : (k : ℕ) (g : Group) (d : Placed) → slice_get gs k ≡ Some g → IsListed d (members g) → (slice_get all d.place ≡ Some d.row) × (d.place < n)
   pub found : (i : ℕ) (row : DeviceRow) → i < n → slice_get all i ≡ Some row → (k : ℕ) × (g : Group) × (slice_get gs k ≡ Some g) × IsListed (record { place = i; row = row }) (members g)
@@ -198,7 +198,7 @@ go all n gs (row ∷ rows) here rest are =
     onward i r (inr (zero, p, f)) = inl (omega arith)
     onward i r (inr (suc j, p, f)) = inr (j, (omega arith), f)
 
--- the groups of a circuit's transistors
+-- the groups of a circuit's devices
 pub are_groups : (rows : List DeviceRow) → (m : ℕ) × AreGroups rows m (groups rows) × ((i : ℕ) (row : DeviceRow) → slice_get rows i ≡ Some row → i < m)
 are_groups rows = go rows 0 [] rows (λ i r e. subst (λ k. slice_get rows k ≡ Some r) (let z : i ≡ 0 + i = omega arith in z) e) (λ i r e. inr (i, (omega arith), e)) (record {
   each = λ k g d e. absurd (let z : ⊥ = cc in z);
@@ -217,4 +217,4 @@ unlike_law nl t c is i j a b at_a at_b like =
     let h = map_from merged_row (groups rows) j b (subst (λ (z : Circuit). slice_get z.devices j ≡ Some b) (sym o.2) at_b) in
     let first : is_alike (merged_row g.0) b ≡ true = subst (λ (z : DeviceRow). is_alike z b ≡ true) (sym g.2) like in
     let both : is_alike (merged_row g.0) (merged_row h.0) ≡ true = subst (λ (z : DeviceRow). is_alike (merged_row g.0) z ≡ true) (sym h.2) first in
-    (are_groups rows).1.unlike i j g.0 h.0 g.1 h.1 both
+    (are_groups rows).1.unlike i j g.0 h.0 g.1 h.1 (widths_apart g.0.first.row h.0.first.row (sum_width (members g.0)) (sum_width (members h.0)) both)

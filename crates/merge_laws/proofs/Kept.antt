@@ -1,12 +1,15 @@
 -- A sound netlist stays sound when merged, and one in normal form stays so.
-use Rattle.std.proofs.Common.{◌≡◌, ◌⊎◌, inl, inr, ℕ, suc, ◌<◌, ◌≤◌, Bool, true, false, cond, List, [], ◌∷◌, ◌++◌, map, length, Some, slice_get, refl, sym, ◌∙◌, ap, subst, arith}
+use Rattle.std.proofs.Common.{◌≡◌, ◌⊎◌, inl, inr, ℕ, suc, ◌<◌, ◌≤◌, Bool, true, false, cond, List, [], ◌∷◌, ◌++◌, map, length, Some, slice_get, refl, sym, ◌∙◌, ap, subst, append_assoc, arith}
 use Rattle.std.specs.Prelude.{flat_map}
 use Rattle.plain_netlist.specs.Lists.{IsListed}
-use Rattle.plain_netlist.specs.Netlist.{Pole, Source, Gate, Drain, Bulk, DeviceRow, on, CallRow, Circuit, Netlist, IsDevice, HasNet}
-use Rattle.plain_netlist.specs.Normal.{terminal_nets, AreNumbered, IsNormalCircuit}
+use Rattle.plain_netlist.specs.Devices.{terminal_nets}
+use Rattle.plain_netlist.proofs.Rows.{rows_terminal}
+use Rattle.plain_netlist.specs.Netlist.{DeviceRow, CallRow, Circuit, Netlist, IsDevice, HasNet}
+use Rattle.plain_netlist.specs.Normal.{AreNumbered, IsNormalCircuit}
 use Rattle.plain_netlist.specs.Sound.{IsCallPath}
+use Rattle.merge_laws.specs.Merge.{with_width}
 use Rattle.merge_laws.specs.Grouped.{is_alike, Placed, Group, with_device, grouped, groups, merged_row, merged_circuit, merged_netlist, SoundMergedLaw, NormalMergedLaw}
-use Rattle.merge_laws.proofs.Alike.{alike_law}
+use Rattle.merge_laws.proofs.Alike.{is_turned, alike_law}
 use Rattle.merge_laws.proofs.Nets as nets
 
 module _ (nl : Netlist) where
@@ -20,17 +23,12 @@ module _ (nl : Netlist) where
   path_back [] c d e = e
   path_back (k ∷ ks) c d (row, call, rest) = (row, nets.call_back nl c k row call, path_back ks row.circuit d rest)
 
-  first_net : (g : Group) (row : DeviceRow) (pole : Pole) → merged_row g ≡ row → on pole g.first.row ≡ on pole row
-  first_net g row Source e = ap (λ (z : DeviceRow). z.source) e
-  first_net g row Gate e = ap (λ (z : DeviceRow). z.gate) e
-  first_net g row Drain e = ap (λ (z : DeviceRow). z.drain) e
-  first_net g row Bulk e = ap (λ (z : DeviceRow). z.bulk) e
-
-  device_net : ((j : ℕ) (row : DeviceRow) (c : ℕ) (pole : Pole) → IsDevice nl c j row → HasNet nl c (on pole row)) → (c j : ℕ) (row : DeviceRow) (pole : Pole) → IsDevice ml c j row → HasNet ml c (on pole row)
-  device_net all c j row pole has =
+  device_net : ((j n : ℕ) (row : DeviceRow) (c : ℕ) → IsDevice nl c j row → IsListed n (terminal_nets row) → HasNet nl c n) → (c j n : ℕ) (row : DeviceRow) → IsDevice ml c j row → IsListed n (terminal_nets row) → HasNet ml c n
+  device_net all c j n row has on =
       let g = nets.has_group nl [] c j row has in
       let first = nets.member_has nl [] c j g.0 g.0.first g.1 (inl refl) in
-      net_there c (on pole row) (subst (λ n. HasNet nl c n) (first_net g.0 row pole g.2) (all g.0.first.place g.0.first.row c pole first))
+      let listed : IsListed n (terminal_nets (merged_row g.0)) = subst (λ (z : DeviceRow). IsListed n (terminal_nets z)) (sym g.2) on in
+      net_there c n (all g.0.first.place n g.0.first.row c first listed)
 
 pub sound_merged : SoundMergedLaw
 sound_merged nl sound = record {
@@ -44,7 +42,7 @@ sound_merged nl sound = record {
   nets = record {
     pins = λ c i n (x, is, at). let o = nets.circuit_back nl c x is in net_there nl c n (sound.nets.pins c i n (o.0, o.1, subst (λ (z : Circuit). slice_get z.pins i ≡ Some n) (sym o.2) at));
     calls = λ c k p n row call at. net_there nl c n (sound.nets.calls c k p n row (nets.call_back nl c k row call) at);
-    devices = device_net nl (λ j row c pole has. sound.nets.devices c j row pole has);
+    devices = device_net nl (λ j n row c has on. sound.nets.devices c j n row has on);
   };
   calls = λ c k row call. let d = sound.calls c k row (nets.call_back nl c k row call) in (merged_circuit d.0, nets.circuit_there nl row.circuit d.0 d.1, d.2);
   no_cycle = λ c (k, ks, path). sound.no_cycle c (k, ks, path_back nl (k ∷ ks) c c path);
@@ -101,16 +99,12 @@ begun (g ∷ gs) d = at (begun gs d) (is_alike g.first.row d.row) refl
     at (inr q) false e = inr (ap (λ rs. g.first.row ∷ rs) q)
 
 alike_nets : (a b : DeviceRow) → is_alike a b ≡ true → (x : ℕ) → IsListed x (terminal_nets b) → IsListed x (terminal_nets a)
-alike_nets a b e x i = let l = alike_law a b e in go l.gate l.bulk l.channel i
-  where
-    go : a.gate ≡ b.gate → a.bulk ≡ b.bulk → ((a.source ≡ b.source) × (a.drain ≡ b.drain)) ⊎ ((a.source ≡ b.drain) × (a.drain ≡ b.source)) → IsListed x (terminal_nets b) → IsListed x (terminal_nets a)
-    go g k (inl c) (inl d) = inl (d ∙ sym c.1)
-    go g k (inr c) (inl d) = inr (inr (inl (d ∙ sym c.0)))
-    go g k c (inr (inl d)) = inr (inl (d ∙ sym g))
-    go g k (inl c) (inr (inr (inl d))) = inr (inr (inl (d ∙ sym c.0)))
-    go g k (inr c) (inr (inr (inl d))) = inl (d ∙ sym c.1)
-    go g k c (inr (inr (inr (inl d)))) = inr (inr (inr (inl (d ∙ sym k))))
-    go g k c (inr (inr (inr (inr z)))) = elim z [ ]
+alike_nets a b e x i =
+    let m = rows_terminal (λ (m n : ℕ). m ≡ n) (with_width b 0) (with_width a 0) (alike_law b a (is_turned a b e)).rows x i in
+    subst (λ z. IsListed z (terminal_nets a)) (sym m.2) m.1
+
+abbrev named : DeviceRow → List ℕ
+named d = terminal_nets d
 
 append-nil : {A : Type 0} (xs : List A) → xs ≡ xs ++ []
 append-nil [] = refl
@@ -129,41 +123,42 @@ listed_last (w ∷ xs) y x (inr i) = elim (listed_last xs y x i) [ inl j ↦ inl
 -- what the groups begin with is numbered where all devices are
 thinned : (total : ℕ) (rest : List ℕ) (gs : List Group) (n : ℕ) (rows : List DeviceRow) (next : ℕ)
     → ((a : DeviceRow) → IsListed a (firsts gs) → (x : ℕ) → IsListed x (terminal_nets a) → x < next)
-    → AreNumbered total next (flat_map terminal_nets rows ++ rest)
-    → (news : List DeviceRow) × (firsts (grouped gs n rows) ≡ firsts gs ++ news) × AreNumbered total next (flat_map terminal_nets news ++ rest)
+    → AreNumbered total next (flat_map named rows ++ rest)
+    → (news : List DeviceRow) × (firsts (grouped gs n rows) ≡ firsts gs ++ news) × AreNumbered total next (flat_map named news ++ rest)
 thinned total rest gs n [] next low h = ([], append-nil (firsts gs), h)
 thinned total rest gs n (row ∷ rows) next low h =
     let d : Placed = record { place = n; row = row } in
-    let tail = flat_map terminal_nets rows ++ rest in
+    let tail = flat_map named rows ++ rest in
+    let all : AreNumbered total next (named row ++ tail) = subst (λ ns. AreNumbered total next ns) (append_assoc (named row) (flat_map named rows) rest) h in
     elim (begun gs d) [
       | inl (q, a, i, l) ↦
           let more = thinned total rest (with_device gs d) (suc n) rows next
           (λ b j. low b (subst (λ rs. IsListed b rs) q j))
-          (seen total next (terminal_nets row) tail (λ x j. low a i x (alike_nets a row l x j)) h) in
+          (seen total next (terminal_nets row) tail (λ x j. low a i x (alike_nets a row l x j)) all) in
           (more.0, more.1 ∙ ap (λ rs. rs ++ more.0) q, more.2)
       | inr q ↦
-          let s = split total next (terminal_nets row) tail h in
+          let s = split total next (terminal_nets row) tail all in
           let more = thinned total rest (with_device gs d) (suc n) rows s.after
           (λ b j x k. elim (listed_last (firsts gs) row b (subst (λ rs. IsListed b rs) q j)) [
             | inl m ↦ (let z = low b m x k in let y = s.later in omega arith)
             | inr e ↦ s.below x (subst (λ (z : DeviceRow). IsListed x (terminal_nets z)) e k)
           ]) s.rest in
-          (row ∷ more.0, more.1 ∙ (ap (λ rs. rs ++ more.0) q ∙ regroup (firsts gs) row more.0), s.back (flat_map terminal_nets more.0 ++ rest) more.2)
+          (row ∷ more.0, more.1 ∙ (ap (λ rs. rs ++ more.0) q ∙ regroup (firsts gs) row more.0), subst (λ ns. AreNumbered total next ns) (sym (append_assoc (named row) (flat_map named more.0) rest)) (s.back (flat_map named more.0 ++ rest) more.2))
     ]
 
-nets_of_firsts : (gs : List Group) → flat_map terminal_nets (map merged_row gs) ≡ flat_map terminal_nets (firsts gs)
+nets_of_firsts : (gs : List Group) → flat_map named (map merged_row gs) ≡ flat_map named (firsts gs)
 nets_of_firsts [] = refl
 nets_of_firsts (g ∷ gs) = ap (λ ns. terminal_nets g.first.row ++ ns) (nets_of_firsts gs)
 
 normal_circuit : (c : Circuit) → IsNormalCircuit c → IsNormalCircuit (merged_circuit c)
 normal_circuit c normal =
     let calls = flat_map (λ (r : CallRow). r.nets) c.calls in
-    let s = split (length c.nets) 0 c.pins (flat_map terminal_nets c.devices ++ calls) normal.numbered in
+    let s = split (length c.nets) 0 c.pins (flat_map named c.devices ++ calls) normal.numbered in
     let t = thinned (length c.nets) calls [] 0 c.devices s.after (λ a i. absurd i) s.rest in
-    let e : flat_map terminal_nets (map merged_row (groups c.devices)) ≡ flat_map terminal_nets t.0 = nets_of_firsts (groups c.devices) ∙ ap (flat_map terminal_nets) t.1 in
+    let e : flat_map named (map merged_row (groups c.devices)) ≡ flat_map named t.0 = nets_of_firsts (groups c.devices) ∙ ap (flat_map named) t.1 in
     record {
       pins = normal.pins;
-      numbered = s.back (flat_map terminal_nets (map merged_row (groups c.devices)) ++ calls) (subst (λ ns. AreNumbered (length c.nets) s.after (ns ++ calls)) (sym e) t.2);
+      numbered = s.back (flat_map named (map merged_row (groups c.devices)) ++ calls) (subst (λ ns. AreNumbered (length c.nets) s.after (ns ++ calls)) (sym e) t.2);
     }
 
 pub normal_merged : NormalMergedLaw

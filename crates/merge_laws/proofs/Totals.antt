@@ -1,11 +1,11 @@
 -- Two lists of the same devices, each once, have one total width.
 use Rattle.std.proofs.Common.{◌≡◌, ◌⊎◌, inl, inr, ◌+◌, List, [], ◌∷◌, refl, sym, ◌∙◌, ap, subst, arith}
 use Rattle.plain_netlist.specs.Lists.{IsListed, AreApart}
-use Rattle.merge_laws.specs.Merge.{Known, total_width}
+use Rattle.merge_laws.specs.Merge.{Known, width_of, total_width}
 
 -- the list without one of its items
 record Without {D N : Type 0} (x : Known D N) (ys zs : List (Known D N)) : Type 0 where
-  pub total : total_width ys ≡ x.row.width + total_width zs
+  pub total : total_width ys ≡ width_of x.row + total_width zs
   pub apart : AreApart zs
   pub from : (z : Known D N) → IsListed z zs → IsListed z ys × (z ≡ x → ⊥)
   pub to : (z : Known D N) → IsListed z ys → (z ≡ x) ⊎ IsListed z zs
@@ -15,7 +15,7 @@ without x [] i apart = absurd i
 without x (y ∷ ys) (inl e) apart = (
   ys,
   record {
-    total = ap (λ (z : Known _ _). z.row.width + total_width ys) (sym e);
+    total = ap (λ (z : Known _ _). width_of z.row + total_width ys) (sym e);
     apart = apart.1;
     from = λ z i. (inr i, (λ q. apart.0 (subst (λ w. IsListed w ys) (q ∙ e) i)));
     to = λ z i. elim i [ inl q ↦ inl (q ∙ sym e) | inr j ↦ inr j ];

@@ -1,24 +1,48 @@
--- Alike transistors, and a flat netlist in which each class of alike transistors is one.
+-- Alike devices, and a flat netlist in which each class of alike devices is one.
 use Rattle.std.specs.Prelude.{◌≡◌, ◌⊎◌, ◌+◌, ℕ, Bool, true, false, nat_lt, List, [], ◌∷◌}
 use Rattle.plain_netlist.specs.Lists.{IsListed, AreRising}
-use Rattle.plain_netlist.specs.Flats.{Row, Flat}
-use Rattle.plain_netlist.specs.Netlist.{Source, Gate, Drain, Bulk}
+use Rattle.plain_netlist.specs.declared.kinds.DeviceKind.{DeviceKind}
+use Rattle.plain_netlist.specs.declared.kinds.DeviceKind.TheVariants.{Mos4, ResistorWithBulk, Diode}
+use Rattle.plain_netlist.specs.Devices.{Row, AreRowsAlike}
+use Rattle.plain_netlist.specs.Flats.{Flat}
 
--- transistors of the class may become one: its first byte is above 32
-abbrev pub may_merge : List ℕ → Bool
-may_merge [] = false
-may_merge (byte ∷ bytes) = nat_lt 32 byte
+-- devices of the kind and class may become one: transistors of a class whose first byte is above 32
+abbrev pub may_merge : DeviceKind → List ℕ → Bool
+may_merge Mos4 [] = false
+may_merge Mos4 (byte ∷ bytes) = nat_lt 32 byte
+may_merge ResistorWithBulk class = false
+may_merge Diode class = false
 
--- two rows of one such class, of one length, with gate and bulk on the same nets, and source and
--- drain on the same two, in either order
+abbrev pub may_merge_row : {N : Type 0} → Row N → Bool
+may_merge_row r = may_merge r.kind r.class
+
+-- the size that adds when devices become one is the second; of a transistor the width
+abbrev pub added_size : List ℕ → ℕ
+added_size (first ∷ second ∷ more) = second
+added_size few = 0
+
+-- the sizes with another one in place of that which adds
+abbrev pub with_added : List ℕ → ℕ → List ℕ
+with_added (first ∷ second ∷ more) w = first ∷ w ∷ more
+with_added few w = few
+
+-- the width of a row, and the row with another one
+abbrev pub width_of : {N : Type 0} → Row N → ℕ
+width_of r = added_size r.sizes
+
+abbrev pub with_width : {N : Type 0} → Row N → ℕ → Row N
+with_width r w = record {
+  kind = r.kind;
+  class = r.class;
+  sizes = with_added r.sizes w;
+  ends = r.ends;
+  others = r.others;
+}
+
+-- two rows of a kind and class that may become one, which are the same device but for the width
 pub record AreAlike {N : Type 0} (same : N → N → Type 0) (r s : Row N) : Type 0 where
-  pub merges : may_merge r.class ≡ true
-  pub class : r.class ≡ s.class
-  pub length : r.length ≡ s.length
-  pub gate : same (r.net Gate) (s.net Gate)
-  pub bulk : same (r.net Bulk) (s.net Bulk)
-  pub channel : (same (r.net Source) (s.net Source) × same (r.net Drain) (s.net Drain))
-      ⊎ (same (r.net Source) (s.net Drain) × same (r.net Drain) (s.net Source))
+  pub merges : may_merge_row r ≡ true
+  pub rows : AreRowsAlike same (with_width r 0) (with_width s 0)
 
 -- a device of a flat netlist, by one of its names, with a row that it has
 pub record Known (D N : Type 0) : Type 0 where
@@ -28,7 +52,7 @@ pub record Known (D N : Type 0) : Type 0 where
 -- the sum of the widths
 abbrev pub total_width : {D N : Type 0} → List (Known D N) → ℕ
 total_width [] = 0
-total_width (d ∷ ds) = d.row.width + total_width ds
+total_width (d ∷ ds) = width_of d.row + total_width ds
 
 -- no two places have the same device
 abbrev pub AreOnce : {D N : Type 0} → (D → D → Type 0) → List (Known D N) → Type 0
@@ -44,16 +68,12 @@ pub record IsClass {D N : Type 0} (F : Flat D N) (r : Row N)
   pub once : AreOnce F.one_device members
 
 -- the width of the one that a row's class becomes: the sum over the class, or the row's own where
--- its class isn't one that may merge
+-- it isn't one that may merge
 abbrev pub IsMergedWidth : {D N : Type 0} → Flat D N → Row N → ℕ → Type 0
 IsMergedWidth {D} {N} F r w =
-    ((may_merge r.class ≡ true)
+    ((may_merge_row r ≡ true)
     × (members : List (Known D N)) × IsClass F r members × (w ≡ total_width members))
-    ⊎ ((may_merge r.class ≡ false) × (w ≡ r.width))
-
--- the row with another width
-abbrev pub with_width : {N : Type 0} → Row N → ℕ → Row N
-with_width r w = record { class = r.class; length = r.length; width = w; net = r.net }
+    ⊎ ((may_merge_row r ≡ false) × (w ≡ width_of r))
 
 -- rows of the two devices are alike, whichever names the devices are known by
 abbrev pub AreDevicesAlike : {D N : Type 0} → Flat D N → D → D → Type 0

@@ -1,7 +1,7 @@
-//! Netlists in which each class of alike transistors is one: definitions and laws.
+//! Netlists in which each class of alike devices is one: definitions and laws.
 //!
-//! The definitions stand in `specs/`: `Merge` has alike transistors and merged flat netlists,
-//! `Grouped` a circuit's groups of alike transistors and the circuit in which each is one. No code
+//! The definitions stand in `specs/`: `Merge` has alike devices and merged flat netlists,
+//! `Grouped` a circuit's groups of alike devices and the circuit in which each is one. No code
 //! runs here; each law is the contract of a function with an empty body.
 #![tactic(auto)]
 
@@ -13,7 +13,7 @@ pub fn merged_flats()
     ensures { MergedSameLaw }
 {}
 
-/// In a circuit where each group of alike transistors is one, no two are alike.
+/// In a circuit where each group of alike devices is one, no two are alike.
 pub fn merging()
     ensures alike { AlikeLaw }
     ensures alike_back { AlikeBackLaw }

@@ -9,8 +9,8 @@ use Rattle.std.proofs.lemmas.List.{get_or-set_same, get_or-set_other, length-set
 use Rattle.std.proofs.lemmas.Option.{slice_get_within, slice_get-get_or}
 use Rattle.call_order.specs.Order.{lists, IsCallOrder}
 use Rattle.plain_netlist.specs.Lists.{IsListed}
-use Rattle.plain_netlist.specs.Netlist.{Pole, Source, Gate, Drain, Bulk, on, DeviceRow, CallRow, Circuit, Netlist, IsCircuit, IsCall, HasNet}
-use Rattle.plain_netlist.specs.Normal.{terminal_nets}
+use Rattle.plain_netlist.specs.Netlist.{CallRow, Circuit, Netlist, IsCircuit, IsCall, HasNet}
+use Rattle.plain_netlist.specs.Devices.{terminal_nets}
 use Rattle.plain_netlist.specs.Sound.{IsGood}
 use Rattle.plain_netlist.proofs.Members.{listed, position, in_left, in_right, either_side, in_all, from_all}
 use Rattle.align_laws.specs.Cut.{OnDevice}
@@ -62,19 +62,6 @@ in_map f (y ∷ xs) x (inr h) = inr (in_map f xs x h)
 pub all_below : (xs : List ℕ) (n : ℕ) → ((m : ℕ) → IsListed m xs → m < n) → AreBelow xs n
 all_below xs n h i low = h (slice_index xs i) (listed xs i (slice_index xs i) (slice_get-get_or xs i 0 low))
 
-pole_of : (d : DeviceRow) (n : ℕ) → IsListed n (terminal_nets d) → (pole : Pole) × (on pole d ≡ n)
-pole_of d n (inl e) = (Drain, sym e)
-pole_of d n (inr (inl e)) = (Gate, sym e)
-pole_of d n (inr (inr (inl e))) = (Source, sym e)
-pole_of d n (inr (inr (inr (inl e)))) = (Bulk, sym e)
-pole_of d n (inr (inr (inr (inr e)))) = absurd e
-
-of_pole : (d : DeviceRow) (pole : Pole) → IsListed (on pole d) (terminal_nets d)
-of_pole d Source = inr (inr (inl refl))
-of_pole d Gate = inr (inl refl)
-of_pole d Drain = inl refl
-of_pole d Bulk = inr (inr (inr (inl refl)))
-
 -- a call of a kept circuit is on the net at one of the pins that the table has
 abbrev pub OnTablePin : Netlist → List (Option ℕ) → List (List ℕ) → ℕ → ℕ → Type 0
 OnTablePin f numbers held c n = (k : ℕ) × (row : CallRow) × (p : ℕ) × IsCall f c k row × (is_kept numbers row.circuit ≡ true)
@@ -86,8 +73,7 @@ module _ (f : Netlist) (numbers : List (Option ℕ)) (held : List (List ℕ)) (c
     | inl l ↦
         let d = from_all terminal_nets x.devices n l in
         let j = position x.devices d.0 d.1 in
-        let p = pole_of d.0 n d.2 in
-        inl (j.0, d.0, p.0, (x, is, j.1), p.1)
+        inl (j.0, d.0, (x, is, j.1), d.2)
     | inr l ↦
         let r = from_all (call_nets numbers held) x.calls n l in
         let k = position x.calls r.0 r.1 in
@@ -107,9 +93,9 @@ module _ (f : Netlist) (numbers : List (Option ℕ)) (held : List (List ℕ)) (c
 
   pub on_sight : (n : ℕ) → OnDevice f c n ⊎ OnTablePin f numbers held c n → IsListed n (inner_sights numbers held x)
   on_sight n (inl d) =
-      let e : d.3.0 ≡ x = one_circuit d.3.0 d.3.1 in
-      let l : IsListed d.1 x.devices = listed x.devices d.0 d.1 (subst (λ (y : Circuit). slice_get y.devices d.0 ≡ Some d.1) e d.3.2) in
-      in_left (flat_map terminal_nets x.devices) (flat_map (call_nets numbers held) x.calls) n (in_all terminal_nets x.devices d.1 n l (subst (λ (m : ℕ). IsListed m (terminal_nets d.1)) d.4 (of_pole d.1 d.2)))
+      let e : d.2.0 ≡ x = one_circuit d.2.0 d.2.1 in
+      let l : IsListed d.1 x.devices = listed x.devices d.0 d.1 (subst (λ (y : Circuit). slice_get y.devices d.0 ≡ Some d.1) e d.2.2) in
+      in_left (flat_map terminal_nets x.devices) (flat_map (call_nets numbers held) x.calls) n (in_all terminal_nets x.devices d.1 n l d.3)
   on_sight n (inr r) =
       let e : r.3.0 ≡ x = one_circuit r.3.0 r.3.1 in
       let row = r.1 in
@@ -159,7 +145,7 @@ module _ (g : Netlist) (goes : ℕ → Bool) (f : Flattening) (h : IsFlattening 
 
   pub sight_net : (numbers : List (Option ℕ)) (held : List (List ℕ)) (c n : ℕ) → c < length g.circuits → ArePins numbers held c → IsListed n (inner_sights numbers held (flat_of c)) → HasNet f.flat c n
   sight_net numbers held c n low pins l = elim (sight_on f.flat numbers held c (flat_of c) (flat_there c low) n l) [
-    | inl d ↦ subst (λ (m : ℕ). HasNet f.flat c m) d.4 (good.within.devices c d.0 d.1 d.2 d.3)
+    | inl d ↦ good.within.devices c d.0 n d.1 d.2 d.3
     | inr r ↦ good.within.calls c r.0 r.2 n r.1 r.3 (pin_net c r.0 r.2 r.1 r.3 (pins r.0 r.1 r.2 r.3 r.4 r.5) ∙ ap Some r.6)
   ]
 

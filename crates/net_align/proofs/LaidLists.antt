@@ -3,7 +3,8 @@ use Rattle.std.proofs.Common.{◌≡◌, ℕ, suc, ◌+◌, Bool, true, false, c
 use Rattle.std.proofs.Math.Path.{fun_ext}
 use Rattle.std.proofs.lemmas.List.{map-append, length-map}
 use Rattle.plain_netlist.specs.Netlist.{DeviceRow, CallRow, Circuit}
-use Rattle.align_laws.specs.Flat.{row_through, call_through}
+use Rattle.align_laws.specs.Flat.{call_through}
+use Rattle.plain_netlist.specs.Devices.{row_over}
 use Rattle.align_laws.specs.Lists.{NetAt, DeviceAt, CallAt, FlatCircuit, over, indexed, pieces, joined_place, past, net_at_pin, net_below, device_below, call_below, own_net, own_device, inner_nets, inner_devices, own_calls, inner_calls, plain}
 use Rattle.net_align.specs.Laid.{LaidLaw, name_below, stands, laid, all_laid, stayed, own_part}
 use Rattle.net_align.proofs.Laying.{parts_same}
@@ -22,9 +23,9 @@ past_names [] (n ∷ ns) k =
 past_names (p ∷ ps) [] k = refl
 past_names (p ∷ ps) (n ∷ ns) k = past_names ps ns k
 
-rows_below : (k : ℕ) (to other : ℕ → ℕ) (rows : List DeviceAt) → to ≡ other → map (λ (d : DeviceAt). d.row) (map (device_below k to) rows) ≡ map (row_through other) (map (λ (d : DeviceAt). d.row) rows)
+rows_below : (k : ℕ) (to other : ℕ → ℕ) (rows : List DeviceAt) → to ≡ other → map (λ (d : DeviceAt). d.row) (map (device_below k to) rows) ≡ map (row_over other) (map (λ (d : DeviceAt). d.row) rows)
 rows_below k to other [] e = refl
-rows_below k to other (r ∷ rs) e = ap₂ (λ (f : ℕ → ℕ) (t : List DeviceRow). row_through f r.row ∷ t) e (rows_below k to other rs e)
+rows_below k to other (r ∷ rs) e = ap₂ (λ (f : ℕ → ℕ) (t : List DeviceRow). row_over f r.row ∷ t) e (rows_below k to other rs e)
 
 calls_below : (k : ℕ) (to other : ℕ → ℕ) (rows : List CallAt) → to ≡ other → map (λ (d : CallAt). d.row) (map (call_below k to) rows) ≡ map (call_through other) (map (λ (d : CallAt). d.row) rows)
 calls_below k to other [] e = refl
@@ -68,7 +69,7 @@ module _ (goes : ℕ → Bool) (f : ℕ → FlatCircuit) (far : ℕ → ℕ → 
       let inner = f x.circuit in
       parts_same acc.name acc.pins
       (acc.nets ++ map (name_below k) (drop (length x.nets) (map nm inner.nets))) (acc.nets ++ map nm (map (net_below (p 0)) (past x.nets inner.nets)))
-      (acc.devices ++ map (row_through (stands x.nets (length acc.nets))) (map dr inner.devices)) (acc.devices ++ map dr (map (device_below (p 0) (to (p 0) x)) inner.devices))
+      (acc.devices ++ map (row_over (stands x.nets (length acc.nets))) (map dr inner.devices)) (acc.devices ++ map dr (map (device_below (p 0) (to (p 0) x)) inner.devices))
       (acc.calls ++ map (call_through (stands x.nets (length acc.nets))) (map cr inner.calls)) (acc.calls ++ map cr (map (call_below (p 0) (to (p 0) x)) inner.calls))
       (ap (λ (t : List (List ℕ)). acc.nets ++ t) (ap (λ (n : ℕ). map (name_below n) (drop (length x.nets) (map nm inner.nets))) (sym e) ∙ sym (past_names x.nets inner.nets (p 0))))
       (ap (λ (t : List DeviceRow). acc.devices ++ t) (sym (rows_below (p 0) (to (p 0) x) (stands x.nets (length acc.nets)) inner.devices h)))

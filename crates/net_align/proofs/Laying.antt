@@ -3,12 +3,16 @@ use Rattle.std.proofs.Common.{◌≡◌, ℕ, zero, suc, ◌+◌, ◌<◌, Bool,
 use Rattle.std.proofs.Math.Decide.{ℕ_discrete}
 use Rattle.std.proofs.lemmas.List.{get_or_append_left, get_or_push, take_more, map-append, length-map, length-take-le}
 use Rattle.plain_netlist.specs.Netlist.{DeviceRow, CallRow, Circuit}
-use Rattle.align_laws.specs.Flat.{row_through, call_through}
+use Rattle.align_laws.specs.Flat.{call_through}
+use Rattle.plain_netlist.specs.Devices.{row_over, terminal_nets}
+use Rattle.plain_netlist.specs.Lists.{IsListed}
+use Rattle.plain_netlist.proofs.Rows.{row_over_agrees}
+use Rattle.net_model.proofs.Shapes.{listed_net}
 use Rattle.align_laws.specs.Lists.{net_at_pin}
 use Rattle.net_model.specs.Rows.{plain_device, plain_call}
 use Rattle.net_model.specs.declared.netlist.DeviceRow.{DeviceRow as Device}
 use Rattle.net_model.specs.declared.netlist.CallRow.{CallRow as Call}
-use Rattle.net_align.specs.Laid.{AreBelow, AreRowsBelow, AreCallsBelow, device_put, call_put, stands, AreStands, stayed, all_laid, laid}
+use Rattle.net_align.specs.Laid.{AreBelow, IsRowBelow, AreRowsBelow, AreCallsBelow, device_put, call_put, stands, AreStands, stayed, all_laid, laid}
 
 place_near : (pins : List ℕ) (far : ℕ → ℕ) (n : ℕ) → n < length pins → slice_index pins n ≡ net_at_pin pins far n
 place_near [] far n low = absurd (let l = low in omega arith)
@@ -40,15 +44,15 @@ map_below f g n [] h low = refl
 map_below f g n (x ∷ xs) h low =
     ap₂ (λ (y : ℕ) (ys : List ℕ). y ∷ ys) (h x (low 0 (omega arith))) (map_below f g n xs h (λ i l. low (suc i) (let k = l in omega arith)))
 
-four : (d : Device) (s t u v w x y z : ℕ) → s ≡ t → u ≡ v → w ≡ x → y ≡ z
-    → (let r : DeviceRow = record { class = d.class; length = d.length.0; width = d.width.0; source = s; gate = u; drain = w; bulk = y } in r) ≡ (let r : DeviceRow = record { class = d.class; length = d.length.0; width = d.width.0; source = t; gate = v; drain = x; bulk = z } in r)
-four d s t u v w x y z a b c e = cc
+-- a terminal's net is one of the device's nets
+terminal_low : (d : Device) (n : ℕ) → IsRowBelow d n → (m : ℕ) → IsListed m (terminal_nets (plain_device d)) → m < n
+terminal_low d n low m l = let p = listed_net d.kind d.nets m l in subst (λ (x : ℕ). x < n) (sym p.2) (low p.0 p.1)
 
-pub devices_put : (f g : ℕ → ℕ) (n : ℕ) (rows : List Device) → ((i : ℕ) → i < n → f i ≡ g i) → AreRowsBelow rows n → map (device_put f) rows ≡ map (row_through g) (map plain_device rows)
+pub devices_put : (f g : ℕ → ℕ) (n : ℕ) (rows : List Device) → ((i : ℕ) → i < n → f i ≡ g i) → AreRowsBelow rows n → map (device_put f) rows ≡ map (row_over g) (map plain_device rows)
 devices_put f g n [] h low = refl
 devices_put f g n (d ∷ ds) h low =
     let b = low 0 d refl in
-    ap₂ (λ (r : DeviceRow) (rs : List DeviceRow). r ∷ rs) (four d (f d.source) (g d.source) (f d.gate) (g d.gate) (f d.drain) (g d.drain) (f d.bulk) (g d.bulk) (h d.source b.source) (h d.gate b.gate) (h d.drain b.drain) (h d.bulk b.bulk))
+    ap₂ (λ (r : DeviceRow) (rs : List DeviceRow). r ∷ rs) (row_over_agrees f g (plain_device d) (λ m l. h m (terminal_low d n b m l)))
     (devices_put f g n ds h (λ i r e. low (suc i) r e))
 
 pub calls_put : (f g : ℕ → ℕ) (n : ℕ) (rows : List Call) → ((i : ℕ) → i < n → f i ≡ g i) → AreCallsBelow rows n → map (call_put f) rows ≡ map (call_through g) (map plain_call rows)

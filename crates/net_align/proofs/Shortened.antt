@@ -5,9 +5,10 @@ use Rattle.std.specs.Prelude.{slice_index_or, flat_map, is_some, unwrap_or}
 use Rattle.std.proofs.lemmas.List.{map-append}
 use Rattle.plain_netlist.specs.Lists.{IsListed}
 use Rattle.plain_netlist.specs.Netlist.{DeviceRow, CallRow as PlainCall, Circuit as PlainCircuit}
-use Rattle.plain_netlist.specs.Normal.{terminal_nets}
+use Rattle.plain_netlist.specs.Devices.{terminal_nets}
 use Rattle.plain_netlist.proofs.Members.{in_left, in_right, in_all}
-use Rattle.align_laws.specs.Flat.{row_through}
+use Rattle.plain_netlist.specs.Devices.{row_over}
+use Rattle.plain_netlist.proofs.Rows.{row_over_agrees}
 use Rattle.net_model.specs.Rows.{plain_call, plain_device}
 use Rattle.net_model.specs.declared.netlist.CallRow.{CallRow}
 use Rattle.net_model.specs.declared.netlist.DeviceRow.{DeviceRow as Device}
@@ -32,9 +33,6 @@ module _ (numbers : List (Option ℕ)) (held : List (List ℕ)) (to : ℕ → �
 pub call_added : (xs ys : List CallRow) (new : CallRow) (more : List PlainCall) → ys ≡ xs ++ new ∷ [] → more ≡ plain_call new ∷ [] → map plain_call ys ≡ map plain_call xs ++ more
 call_added xs ys new more e is = ap (λ (t : List CallRow). map plain_call t) e ∙ (map-append plain_call xs (new ∷ []) ∙ ap (λ (t : List PlainCall). map plain_call xs ++ t) (sym is))
 
-four : (d : Device) (f g : ℕ → ℕ) → f d.source ≡ g d.source → f d.gate ≡ g d.gate → f d.drain ≡ g d.drain → f d.bulk ≡ g d.bulk → device_put f d ≡ row_through g (plain_device d)
-four d f g a b c e = cc
-
 module _ (numbers : List (Option ℕ)) (held : List (List ℕ)) (own : List ℕ) (c : PlainCircuit) (to : ℕ → ℕ)
     (same : (n : ℕ) → IsListed n (sights numbers held own c) → to n ≡ place_in (firsts (sights numbers held own c)) n) where
   abbrev place : ℕ → ℕ
@@ -46,22 +44,22 @@ module _ (numbers : List (Option ℕ)) (held : List (List ℕ)) (own : List ℕ)
   pub pins_same : map to own ≡ map place own
   pins_same = map_on to place own (λ n h. same n (in_left own (inner_sights numbers held c) n h))
 
-  pub devices_same : (rows : List Device) → map plain_device rows ≡ c.devices → map (device_put to) rows ≡ map (row_through place) c.devices
+  pub devices_same : (rows : List Device) → map plain_device rows ≡ c.devices → map (device_put to) rows ≡ map (row_over place) c.devices
   devices_same rows e =
       go rows (λ d h n l. inside n (in_left (flat_map terminal_nets c.devices) (flat_map (call_nets numbers held) c.calls) n (subst (λ (t : List DeviceRow). IsListed n (flat_map terminal_nets t)) e (in_all terminal_nets (map plain_device rows) (plain_device d) n (mapped rows d h) l))))
-      ∙ ap (λ (t : List DeviceRow). map (row_through place) t) e
+      ∙ ap (λ (t : List DeviceRow). map (row_over place) t) e
     where
       mapped : (xs : List Device) (d : Device) → IsListed d xs → IsListed (plain_device d) (map plain_device xs)
       mapped [] d h = h
       mapped (x ∷ xs) d (inl e) = inl (ap plain_device e)
       mapped (x ∷ xs) d (inr h) = inr (mapped xs d h)
 
-      go : (xs : List Device) → ((d : Device) → IsListed d xs → (n : ℕ) → IsListed n (terminal_nets (plain_device d)) → to n ≡ place n) → map (device_put to) xs ≡ map (row_through place) (map plain_device xs)
+      go : (xs : List Device) → ((d : Device) → IsListed d xs → (n : ℕ) → IsListed n (terminal_nets (plain_device d)) → to n ≡ place n) → map (device_put to) xs ≡ map (row_over place) (map plain_device xs)
       go [] h = refl
       go (d ∷ xs) h =
           let all = h d (inl refl) in
           ap₂ (λ (r : DeviceRow) (rs : List DeviceRow). r ∷ rs)
-          (four d to place (all d.source (inr (inr (inl refl)))) (all d.gate (inr (inl refl))) (all d.drain (inl refl)) (all d.bulk (inr (inr (inr (inl refl))))))
+          (row_over_agrees to place (plain_device d) all)
           (go xs (λ y l. h y (inr l)))
 
   pub calls_same : flat_map (short_call numbers held to) c.calls ≡ flat_map (short_call numbers held place) c.calls
@@ -79,6 +77,6 @@ module _ (numbers : List (Option ℕ)) (held : List (List ℕ)) (own : List ℕ)
 
 pub cut_same : (numbers : List (Option ℕ)) (held : List (List ℕ)) (own : List ℕ) (c : PlainCircuit) (name : List ℕ) (nets : List (List ℕ)) (pins : List ℕ) (devices : List DeviceRow) (calls : List PlainCall)
     → name ≡ c.name → nets ≡ map (λ n. slice_index_or c.nets n []) (firsts (sights numbers held own c)) → pins ≡ map (place_in (firsts (sights numbers held own c))) own
-    → devices ≡ map (row_through (place_in (firsts (sights numbers held own c)))) c.devices → calls ≡ flat_map (short_call numbers held (place_in (firsts (sights numbers held own c)))) c.calls
+    → devices ≡ map (row_over (place_in (firsts (sights numbers held own c)))) c.devices → calls ≡ flat_map (short_call numbers held (place_in (firsts (sights numbers held own c)))) c.calls
     → (let x : PlainCircuit = record { name = name; nets = nets; pins = pins; devices = devices; calls = calls } in x) ≡ cut_down numbers held own c
 cut_same numbers held own c name nets pins devices calls n a b d e = cc

@@ -8,11 +8,12 @@ use Rattle.std.proofs.lemmas.Simd.{map-map}
 use Rattle.std.proofs.lemmas.Option.{slice_get-get_or}
 use Rattle.plain_netlist.specs.Lists.{IsListed}
 use Rattle.plain_netlist.specs.Netlist.{CallRow, Circuit, Netlist, IsCircuit, IsCall, IsPin}
-use Rattle.plain_netlist.specs.Normal.{AreNumbered, IsNormalCircuit, appearances, terminal_nets}
+use Rattle.plain_netlist.specs.Normal.{AreNumbered, IsNormalCircuit, appearances}
+use Rattle.plain_netlist.specs.Devices.{terminal_nets}
 use Rattle.plain_netlist.proofs.Members.{listed, position, in_right, either_side}
 use Rattle.align_laws.specs.Aligned.{IsAlignedBy, HasOnlyKept}
 use Rattle.align_laws.specs.Cut.{Alignment, CutCall, held_pins, cut_row, cut_calls, cut, AreHeld}
-use Rattle.align_laws.specs.Flat.{row_through}
+use Rattle.plain_netlist.specs.Devices.{row_over}
 use Rattle.align_laws.specs.Lists.{pieces, net_at_pin, given_of, circuit_or, plain}
 use Rattle.align_laws.proofs.Appear.{old_nets, old, cut_kept, appear}
 use Rattle.align_laws.proofs.Views.{keep}
@@ -144,7 +145,7 @@ module _ (g : Netlist) (goes : ℕ → Bool) (f : Flattening) (h : IsFlattening 
   pub cut_is : (c : ℕ) → is_kept numbers c ≡ true → cut f.flat aligning c ≡ cut_of f.flats numbers held c
   cut_is c kept =
       cut_same numbers held (pins_of held c) (given_of f.flat c) (given_of f.flat c).name (aligning.names c) (map (place_in (olds c)) (held_pins f.flat aligning c))
-      (map (row_through (place_in (olds c))) (given_of f.flat c).devices) (map (λ (r : CutCall). r.row) (cut_calls f.flat aligning c))
+      (map (row_over (place_in (olds c))) (given_of f.flat c).devices) (map (λ (r : CutCall). r.row) (cut_calls f.flat aligning c))
       refl refl (ap (λ (ps : List ℕ). map (place_in (olds c)) ps) (own_is c kept)) refl (cut_kept f.flat aligning c ∙ calls_same c (given_of f.flat c).calls)
       ∙ ap (λ (x : Circuit). cut_down numbers held (pins_of held c) x) (given c kept)
 

@@ -6,7 +6,7 @@ use Rattle.std.proofs.Math.Decide.{ℕ_discrete}
 use Rattle.std.proofs.lemmas.List.{length-set, get_or-set_same, get_or-set_other}
 use Rattle.std.proofs.lemmas.Option.{slice_get_within, slice_get-get_or}
 use Rattle.call_order.specs.Order.{Calls, IsCallOrder}
-use Rattle.plain_netlist.specs.Netlist.{CallRow, Circuit, Netlist, Source, Gate, Drain, Bulk, on, IsCircuit, IsCall, IsDevice, HasNet}
+use Rattle.plain_netlist.specs.Netlist.{CallRow, Circuit, Netlist, IsCircuit, IsCall, IsDevice, HasNet}
 use Rattle.plain_netlist.specs.Sound.{IsGood}
 use Rattle.align_laws.specs.Lists.{FlatCircuit, plain}
 use Rattle.align_laws.proofs.FlatGood.{flat_is_good}
@@ -15,6 +15,7 @@ use Rattle.net_model.specs.Rows.{plain_device, plain_call, plain_circuit}
 use Rattle.net_model.specs.declared.netlist.CallRow.{CallRow as Call}
 use Rattle.net_model.specs.declared.netlist.Circuit.{Circuit as CircuitRow}
 use Rattle.net_model.proofs.CallLemmas.{calls_law}
+use Rattle.net_model.proofs.Shapes.{net_listed}
 use Rattle.net_align.specs.Laid.{AreRowsBelow, AreCallsBelow, AreCircuitsBelow, IsFlatThere, laid_out}
 use Rattle.net_align.specs.Flattened.{Flattening, IsFlattening, HasFlat, AreClosed, AreFlats, AreFlatsBelow}
 use Rattle.net_align.specs.Walked.{IsMarked, AreReached}
@@ -32,12 +33,7 @@ module _ (n : Netlist) (d : ℕ) (x : CircuitRow) (is : IsCircuit n d (plain_cir
   pub rows_low : AreRowsBelow x.devices.items (length x.nets.items)
   rows_low i r e =
       let has : IsDevice n d i (plain_device r) = (plain_circuit x, is, map_to plain_device x.devices.items i r e) in
-      record {
-        source = low r.source (good.within.devices d i (plain_device r) Source has);
-        gate = low r.gate (good.within.devices d i (plain_device r) Gate has);
-        drain = low r.drain (good.within.devices d i (plain_device r) Drain has);
-        bulk = low r.bulk (good.within.devices d i (plain_device r) Bulk has);
-      }
+      λ k l. low (slice_index r.nets k) (good.within.devices d i (slice_index r.nets k) (plain_device r) has (net_listed r.kind r.nets k l))
 
   pub calls_low : AreCallsBelow x.calls.items (length x.nets.items)
   calls_low i r e j l =

@@ -3,8 +3,10 @@
 use Rattle.std.specs.Prelude.{◌≡◌, ◌<◌, ◌≤◌, ◌+◌, ℕ, suc, Bool, cond, List, [], ◌∷◌, ◌++◌, map}
 use Rattle.std.specs.Prelude.{length, drop, Option, Some, slice_get, slice_index, slice_index_or}
 use Rattle.std.specs.Prelude.{false, decimal}
+use Rattle.plain_netlist.specs.Kinds.{terminal_count}
 use Rattle.plain_netlist.specs.Netlist.{DeviceRow, CallRow, Circuit}
-use Rattle.align_laws.specs.Flat.{row_through, call_through}
+use Rattle.align_laws.specs.Flat.{call_through}
+use Rattle.plain_netlist.specs.Devices.{row_over}
 use Rattle.align_laws.specs.Lists.{FlatCircuit, net_at_pin, inlined, plain}
 use Rattle.net_model.specs.Rows.{plain_device, plain_call, plain_circuit}
 use Rattle.net_model.specs.declared.netlist.Circuit.{Circuit as CircuitRow}
@@ -16,11 +18,8 @@ abbrev pub AreBelow : List ℕ → ℕ → Type 0
 AreBelow xs n = (i : ℕ) → i < length xs → slice_index xs i < n
 
 -- the terminals are nets below n
-pub record IsRowBelow (d : Device) (n : ℕ) : Type 0 where
-  pub source : d.source < n
-  pub gate : d.gate < n
-  pub drain : d.drain < n
-  pub bulk : d.bulk < n
+abbrev pub IsRowBelow : Device → ℕ → Type 0
+IsRowBelow d n = (i : ℕ) → i < terminal_count d.kind → slice_index d.nets i < n
 
 abbrev pub AreRowsBelow : List Device → ℕ → Type 0
 AreRowsBelow rows n = (i : ℕ) (d : Device) → slice_get rows i ≡ Some d → IsRowBelow d n
@@ -33,20 +32,13 @@ AreCallsBelow rows n = (i : ℕ) (r : Call) → slice_get rows i ≡ Some r → 
 abbrev pub name_below : ℕ → List ℕ → List ℕ
 name_below k name = 88 ∷ (decimal (k + 1) ++ 47 ∷ name)
 
--- the device with other nets
-abbrev pub device_on : Device → ℕ → ℕ → ℕ → ℕ → DeviceRow
-device_on d source gate drain bulk = record {
-  class = d.class;
-  length = d.length.0;
-  width = d.width.0;
-  source = source;
-  gate = gate;
-  drain = drain;
-  bulk = bulk;
-}
+-- these nets stand for the device's own
+abbrev pub ArePut : (ℕ → ℕ) → Device → List ℕ → Type 0
+ArePut to d nets = (k : ℕ) → k < terminal_count d.kind
+    → slice_index nets k ≡ to (slice_index d.nets k)
 
 abbrev pub device_put : (ℕ → ℕ) → Device → DeviceRow
-device_put to d = row_through to (plain_device d)
+device_put to d = row_over to (plain_device d)
 
 abbrev pub call_put : (ℕ → ℕ) → Call → CallRow
 call_put to r = call_through to (plain_call r)
@@ -61,7 +53,7 @@ laid k row inner c = record {
   name = c.name;
   nets = c.nets ++ map (name_below k) (drop (length row.nets) inner.nets);
   pins = c.pins;
-  devices = c.devices ++ map (row_through (stands row.nets (length c.nets))) inner.devices;
+  devices = c.devices ++ map (row_over (stands row.nets (length c.nets))) inner.devices;
   calls = c.calls ++ map (call_through (stands row.nets (length c.nets))) inner.calls;
 }
 

@@ -4,8 +4,8 @@ use Rattle.std.specs.Prelude.{flat_map, slice_get, slice_index_or, Option, Some,
 use Rattle.std.specs.Prelude.{unwrap_or, if◌then◌else◌, ◌≡◌}
 use Rattle.std.specs.List.{list_any}
 use Rattle.plain_netlist.specs.Netlist.{CallRow, Circuit}
-use Rattle.plain_netlist.specs.Normal.{terminal_nets}
-use Rattle.align_laws.specs.Flat.{row_through}
+use Rattle.plain_netlist.specs.Devices.{terminal_nets}
+use Rattle.plain_netlist.specs.Devices.{row_over}
 
 -- a number stands in the list
 abbrev pub has_number : List ℕ → ℕ → Bool
@@ -85,6 +85,6 @@ cut_down numbers held own c =
       name = c.name;
       nets = map (λ n. slice_index_or c.nets n []) old;
       pins = map (place_in old) own;
-      devices = map (row_through (place_in old)) c.devices;
+      devices = map (row_over (place_in old)) c.devices;
       calls = flat_map (short_call numbers held (place_in old)) c.calls;
     }

@@ -2,11 +2,11 @@
 ghost use Rattle.std.specs.Prelude.{◌≡◌, ◌++◌, ℕ, [], IfOk, OnOk, length, map, flat_map};
 ghost use Rattle.std.specs.Prelude.{slice_index_or};
 ghost use Rattle.call_order.specs.Order.{lists};
-ghost use Rattle.net_align.specs.Laid.{AreBelow, AreCircuitsBelow, device_put};
+ghost use Rattle.net_align.specs.Laid.{AreBelow, AreCircuitsBelow, ArePut, device_put};
 ghost use Rattle.net_align.specs.Sights.{cut_down, new_of, net_of, short_call, sights};
 ghost use Rattle.net_model.specs.Rows.{plain_device, plain_call, plain_circuit};
 
-use crate::inline::device_through;
+use crate::inline::with_nets;
 use crate::numbers::{Numbers, entry};
 use crate::sights::{inner_sights, net_at};
 use net_model::{CallRow, Circuit, DeviceRow};
@@ -72,6 +72,17 @@ fn names_at(alloc: Global, names: &[Name], list: &[u32]) -> Result<Vec<Name>, Al
     Ok(found)
 }
 
+// The new numbers of a device's nets.
+fn terminals_cut(row: &DeviceRow, nets: &Numbers) -> [u32; 4]
+    ensures { ArePut (new_of nets.now.places.items) row.now result }
+{
+    let mut new = [0; 4];
+    'terminals: for i in 0..row.kind.terminals() {
+        new[i] = nets.place(row.nets[i]);
+    }
+    new
+}
+
 fn cut_devices(
     alloc: Global,
     devices: &[DeviceRow],
@@ -82,14 +93,7 @@ fn cut_devices(
 {
     let mut rows = Vec::with_capacity(alloc, devices.len())?;
     for row in devices {
-        rows.push(device_through(
-            alloc,
-            row,
-            nets.place(row.source),
-            nets.place(row.gate),
-            nets.place(row.drain),
-            nets.place(row.bulk),
-        )?)?;
+        rows.push(with_nets(alloc, row, terminals_cut(row, nets))?)?;
     }
     Ok(rows)
 }

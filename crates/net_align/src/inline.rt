@@ -3,8 +3,8 @@ ghost use Rattle.std.specs.Prelude.{◌≡◌, ◌<◌, ◌≤◌, ◌+◌, ◌-
 ghost use Rattle.std.specs.Prelude.{drop, map, slice_index, slice_get, Some, true};
 ghost use Rattle.align_laws.specs.Lists.{net_at_pin};
 ghost use Rattle.net_model.specs.Rows.{plain_device, plain_call, plain_circuit};
-ghost use Rattle.net_align.specs.Laid.{AreBelow, AreRowsBelow, AreCallsBelow, name_below};
-ghost use Rattle.net_align.specs.Laid.{device_on, device_put, call_put, laid, stayed, own_part};
+ghost use Rattle.net_align.specs.Laid.{AreBelow, IsRowBelow, AreRowsBelow, AreCallsBelow, name_below};
+ghost use Rattle.net_align.specs.Laid.{ArePut, device_put, call_put, laid, stayed, own_part};
 ghost use Rattle.net_align.specs.Laid.{laid_out, goes_of, AreCircuitsBelow, IsFlatThere, LaidLaw};
 ghost use Rattle.plain_netlist.specs.Netlist.{Circuit as PlainCircuit};
 ghost use Rattle.net_model.specs.declared.netlist.CallRow.{CallRow as Call};
@@ -143,14 +143,7 @@ fn add_devices(
         ≡ map plain_device devices.old.items ++ map (device_put (slice_index to.now)) inner.now) }
 {
     for row in inner {
-        devices.push(device_through(
-            alloc,
-            row,
-            to[row.source as usize],
-            to[row.gate as usize],
-            to[row.drain as usize],
-            to[row.bulk as usize],
-        )?)?;
+        devices.push(device_through(alloc, row, to)?)?;
     }
     Ok(())
 }
@@ -207,26 +200,37 @@ fn name_below(alloc: Global, k: usize, name: &Name) -> Result<Name, AllocError>
     Ok(Name::from_vec(bytes))
 }
 
-/// The device with other nets.
-pub fn device_through(
-    alloc: Global,
-    row: &DeviceRow,
-    source: u32,
-    gate: u32,
-    drain: u32,
-    bulk: u32,
-) -> Result<DeviceRow, AllocError>
-    ensures { IfOk result (λ d. plain_device d ≡ device_on row.now source gate drain bulk) }
+// The nets that stand for a device's own.
+fn nets_through(row: &DeviceRow, to: &[u32]) -> [u32; 4]
+    requires { IsRowBelow row.now (length to.now) }
+    ensures { ArePut (slice_index to.now) row.now result }
+{
+    let mut nets = [0; 4];
+    'terminals: for i in 0..row.kind.terminals() {
+        nets[i] = to[row.nets[i] as usize];
+    }
+    nets
+}
+
+/// The device with other nets, in the order of its own.
+pub fn with_nets(alloc: Global, row: &DeviceRow, nets: [u32; 4]) -> Result<DeviceRow, AllocError>
+    ensures { IfOk result (λ d. (to : ℕ → ℕ) → ArePut to row.now nets
+        → plain_device d ≡ device_put to row.now) }
 {
     Ok(DeviceRow {
+        kind: row.kind,
         class: row.class.try_clone(alloc)?,
-        length: row.length,
-        width: row.width,
-        source,
-        gate,
-        drain,
-        bulk,
+        sizes: row.sizes,
+        nets,
     })
+}
+
+// The device with the nets that stand for its own.
+fn device_through(alloc: Global, row: &DeviceRow, to: &[u32]) -> Result<DeviceRow, AllocError>
+    requires { IsRowBelow row.now (length to.now) }
+    ensures { IfOk result (λ d. plain_device d ≡ device_put (slice_index to.now) row.now) }
+{
+    with_nets(alloc, row, nets_through(row, to))
 }
 
 fn call_through(alloc: Global, row: &CallRow, to: &[u32]) -> Result<CallRow, AllocError>

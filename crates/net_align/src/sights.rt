@@ -7,7 +7,7 @@ ghost use Rattle.net_align.specs.Laid.{AreBelow, AreCircuitsBelow};
 ghost use Rattle.net_align.specs.Sights.{has_number, net_of, call_nets, inner_sights};
 ghost use Rattle.net_align.specs.Marks.{marked};
 ghost use Rattle.net_model.specs.Rows.{plain_device, plain_call, plain_circuit};
-ghost use Rattle.plain_netlist.specs.Normal.{terminal_nets};
+ghost use Rattle.plain_netlist.specs.Devices.{terminal_nets};
 
 use crate::numbers::entry;
 use crate::walk::is_marked;
@@ -37,10 +37,7 @@ fn add_terminals(devices: &[DeviceRow], nets: &mut Vec<u32>) -> Result<(), Alloc
         ≡ nets.old.items ++ flat_map terminal_nets (map plain_device devices.now)) }
 {
     for row in devices {
-        nets.push(row.drain)?;
-        nets.push(row.gate)?;
-        nets.push(row.source)?;
-        nets.push(row.bulk)?;
+        nets.extend_from_slice(row.terminal_nets())?;
     }
     Ok(())
 }

@@ -1,7 +1,8 @@
 -- A terminal stands on a net of its cell.
-use Rattle.std.proofs.Common.{◌≡◌, inl, inr, ℕ, zero, suc, ◌<◌, List, [], ◌∷◌, Some, slice_get, refl, ap, subst}
+use Rattle.std.proofs.Common.{◌≡◌, inl, inr, ℕ, zero, suc, List, [], ◌∷◌, Some, slice_get, refl, ap, subst}
 use Rattle.std.proofs.lemmas.Option.{same_Some}
-use Rattle.flat_layout.specs.GateTables.{Bad, GateEntry, GateRow, Good, GoodGate, IsGateRow, IsVerdict, Verdict, good_gates, terminal_net, with_good}
+use Rattle.flat_layout.specs.GateTables.{Bad, GateEntry, GateRow, Good, GoodGate, IsGateRow, IsVerdict, Verdict, counted_device, good_gates, with_good}
+use Rattle.plain_netlist.proofs.Rows.{terminal_at}
 use Rattle.plain_netlist.specs.Lists.{IsListed}
 use Rattle.net_marks.specs.Laws.{TerminalLaw}
 
@@ -28,9 +29,10 @@ good_entry [] i gate h = let z : ⊥ = cc in absurd z
 good_entry (e ∷ l) i gate h = one_entry e e.verdict l refl (good_entry l) i gate h
 
 pub terminals : TerminalLaw
-terminals d w t rules gates cell x nets are (i, gate, h, pole, on) =
+terminals d w t rules gates cell x nets are (i, gate, h, on) =
     let g = good_entry (gates cell) i gate h in
     let entry = are.each g.entry g.listed in
     let row : IsGateRow d w t entry.rule cell g.entry.at.square gate.row = subst (λ (v : Verdict). IsVerdict d w t entry.rule cell g.entry.at.square v) g.good entry.verdict in
-    let held = (row.nets pole).2 in
-    subst (λ (n : ℕ). n < (t.nets cell).count) on (nets.below held.index (terminal_net pole gate.row) held.is_of.numbered)
+    let at = terminal_at (counted_device entry.rule gate.row) x on in
+    let held = (row.nets at.0 x at.1).2 in
+    nets.below held.index x held.is_of.numbered

@@ -1,3 +1,3 @@
 pub mod Grounding
-pub mod Poles
+pub mod Listed
 pub mod Terminals

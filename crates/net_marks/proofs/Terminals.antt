@@ -1,28 +1,44 @@
 -- Nets with terminals, as marks.
 use Rattle.std.proofs.Common.{◌≡◌, ℕ, zero, suc, ◌+◌, ◌<◌, ◌==◌, ◌||◌, Bool, true, false, List, [], ◌∷◌, ◌++◌, map, take, get_or, length, refl, sym, ◌∙◌, ap, arith}
+use Rattle.std.specs.List.{list_any}
 use Rattle.std.proofs.lemmas.Bool.{eq-eqb, or_right, or_left}
 use Rattle.std.proofs.lemmas.List.{map_push, take_more}
-use Rattle.std.proofs.lemmas.List.Folds.{list_any-append}
+use Rattle.std.proofs.lemmas.List.Folds.{list_any-append, list_any_more}
 use Rattle.std.proofs.Math.Seq.{take-length}
 use Rattle.deep_tables.specs.Gates.{plain_gate, plain_state}
 use Rattle.deep_tables.specs.declared.gates.Gate.{Gate}
-use Rattle.flat_layout.specs.GateTables.{GateEntry, GateRow, Good}
+use Rattle.flat_layout.specs.GateTables.{GateEntry}
+use Rattle.net_model.proofs.FirstLemmas.{any_listed}
+use Rattle.plain_netlist.specs.Lists.{IsListed}
 use Rattle.net_marks.specs.Marks.{has_terminal, is_terminal}
 
-same : (x : ℕ) → (x == x) ≡ true
-same x = eq-eqb x x refl
+-- after n nets
+pub record AreNetsMarked (old : List Bool) (nets : List ℕ) (n : ℕ) (new : List Bool) : Type 0 where
+  pub count : length new ≡ length old
+  pub marked : (x : ℕ) → get_or new x false ≡ (list_any (λ k. x == k) (take n nets) || get_or old x false)
 
-pub source_in : (r : GateRow) → is_terminal r.source (Good r) ≡ true
-source_in r = let x = r.source in or_left (x == r.source) ((x == r.gate) || ((x == r.drain) || (x == r.bulk))) (same x)
+or_turn : (t f o : Bool) → (t || (f || o)) ≡ ((f || t) || o)
+or_turn true true o = refl
+or_turn true false o = refl
+or_turn false true o = refl
+or_turn false false o = refl
 
-pub gate_in : (r : GateRow) → is_terminal r.gate (Good r) ≡ true
-gate_in r = let x = r.gate in or_right (x == r.source) ((x == r.gate) || ((x == r.drain) || (x == r.bulk))) (or_left (x == r.gate) ((x == r.drain) || (x == r.bulk)) (same x))
+pub nets_more : (old mid new : List Bool) (nets : List ℕ) (n net : ℕ) → n < length nets → net ≡ get_or nets n 0 → length new ≡ length mid → ((x : ℕ) → get_or new x false ≡ ((x == net) || get_or mid x false))
+    → AreNetsMarked old nets n mid → AreNetsMarked old nets (n + 1) new
+nets_more old mid new nets n net lt is long added h = record {
+  count = long ∙ h.count;
+  marked = λ x.
+      let test : ℕ → Bool = λ k. x == k in
+      let more : list_any test (take (n + 1) nets) ≡ (list_any test (take n nets) || (x == net)) = list_any_more test nets n 0 lt ∙ ap (λ k. list_any test (take n nets) || (x == k)) (sym is) in
+      added x ∙ ap (λ (b : Bool). (x == net) || b) (h.marked x) ∙ or_turn (x == net) (list_any test (take n nets)) (get_or old x false) ∙ sym (ap (λ (b : Bool). b || get_or old x false) more);
+}
 
-pub drain_in : (r : GateRow) → is_terminal r.drain (Good r) ≡ true
-drain_in r = let x = r.drain in or_right (x == r.source) ((x == r.gate) || ((x == r.drain) || (x == r.bulk))) (or_right (x == r.gate) ((x == r.drain) || (x == r.bulk)) (or_left (x == r.drain) (x == r.bulk) (same x)))
+pub nets_all : (old new : List Bool) (nets : List ℕ) (n : ℕ) → n ≡ length nets → AreNetsMarked old nets n new → (x : ℕ) → get_or new x false ≡ (list_any (λ k. x == k) nets || get_or old x false)
+nets_all old new nets n e h x = h.marked x ∙ ap (λ (l : List ℕ). list_any (λ k. x == k) l || get_or old x false) (ap (λ (k : ℕ). take k nets) e ∙ take-length nets)
 
-pub bulk_in : (r : GateRow) → is_terminal r.bulk (Good r) ≡ true
-bulk_in r = let x = r.bulk in or_right (x == r.source) ((x == r.gate) || ((x == r.drain) || (x == r.bulk))) (or_right (x == r.gate) ((x == r.drain) || (x == r.bulk)) (or_right (x == r.drain) (x == r.bulk) (same x)))
+-- a net of the list passes
+pub passes : (nets : List ℕ) (x : ℕ) → IsListed x nets → list_any (λ k. x == k) nets ≡ true
+passes nets x h = any_listed (λ k. x == k) nets x h (eq-eqb x x refl)
 
 -- after n gates
 pub record AreMarkedTo (old : List Bool) (gates : List Gate) (n : ℕ) (new : List Bool) : Type 0 where

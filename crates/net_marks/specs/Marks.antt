@@ -1,12 +1,10 @@
 -- Nets with a terminal of a good gate, as a test.
-use Rattle.std.specs.Prelude.{ℕ, Bool, false, ◌==◌, ◌||◌, List}
+use Rattle.std.specs.Prelude.{ℕ, Bool, ◌==◌, List}
 use Rattle.std.specs.List.{list_any}
-use Rattle.flat_layout.specs.GateTables.{GateEntry, Verdict, Good, Bad}
+use Rattle.flat_layout.specs.GateTables.{GateEntry, Verdict, verdict_nets}
 
 abbrev pub is_terminal : ℕ → Verdict → Bool
-is_terminal x (Good row) =
-    (x == row.source) || ((x == row.gate) || ((x == row.drain) || (x == row.bulk)))
-is_terminal x (Bad cause) = false
+is_terminal x v = list_any (λ n. x == n) (verdict_nets v)
 
 -- a good gate of the list has a terminal on the net
 abbrev pub has_terminal : ℕ → List GateEntry → Bool

@@ -9,7 +9,8 @@ use Rattle.std.proofs.lemmas.List.Folds.{list_any-append}
 use Rattle.std.proofs.lemmas.Bool.Decides.{Decides-eqb}
 use Rattle.plain_netlist.specs.Lists.{IsListed}
 use Rattle.plain_netlist.specs.Netlist.{DeviceRow, CallRow, Circuit, Netlist}
-use Rattle.plain_netlist.specs.Normal.{terminal_nets, appearances}
+use Rattle.plain_netlist.specs.Devices.{terminal_nets}
+use Rattle.plain_netlist.specs.Normal.{appearances}
 use Rattle.plain_netlist.specs.Sound.{ShowsFault, NameClash, BadTerminal, NoSuchCircuit, PinCount}
 use Rattle.plain_netlist.proofs.Members.{listed, position, in_left, in_right, either_side, in_all, from_all}
 use Rattle.text_table.specs.Texts.{has_text}
@@ -29,26 +30,13 @@ module _ (x : Circuit) where
   count = length x.nets
 
   device_has : (d : DeviceRow) → is_bad_device count d ≡ true → (n : ℕ) × IsListed n (terminal_nets d) × (count ≤ n)
-  device_has d e = elim (or_cases (is_out count d.source || is_out count d.gate || is_out count d.drain) (is_out count d.bulk) e) [
-    | inr b ↦ (d.bulk, inr (inr (inr (inl refl))), is_past count d.bulk b)
-    | inl m ↦ elim (or_cases (is_out count d.source || is_out count d.gate) (is_out count d.drain) m) [
-      | inr b ↦ (d.drain, inl refl, is_past count d.drain b)
-      | inl k ↦ elim (or_cases (is_out count d.source) (is_out count d.gate) k) [
-        | inl b ↦ (d.source, inr (inr (inl refl)), is_past count d.source b)
-        | inr b ↦ (d.gate, inr (inl refl), is_past count d.gate b)
-      ]
-    ]
-  ]
+  device_has d e = let n = any_has (is_out count) (terminal_nets d) e in (n.0, n.1, is_past count n.0 n.2)
 
   has_device : (d : DeviceRow) (n : ℕ) → IsListed n (terminal_nets d) → count ≤ n → is_bad_device count d ≡ true
-  has_device d n (inl e) l = or_left _ (is_out count d.bulk) (or_right (is_out count d.source || is_out count d.gate) _ (past_is count d.drain (omega arith)))
-  has_device d n (inr (inl e)) l = or_left _ (is_out count d.bulk) (or_left _ (is_out count d.drain) (or_right (is_out count d.source) _ (past_is count d.gate (omega arith))))
-  has_device d n (inr (inr (inl e))) l = or_left _ (is_out count d.bulk) (or_left _ (is_out count d.drain) (or_left _ (is_out count d.gate) (past_is count d.source (omega arith))))
-  has_device d n (inr (inr (inr (inl e)))) l = or_right (is_out count d.source || is_out count d.gate || is_out count d.drain) _ (past_is count d.bulk (omega arith))
-  has_device d n (inr (inr (inr (inr e)))) l = absurd e
+  has_device d n h l = any_listed (is_out count) (terminal_nets d) n h (past_is count n l)
 
   abbrev on_devices : List ℕ
-  on_devices = flat_map terminal_nets x.devices
+  on_devices = flat_map (λ (d : DeviceRow). terminal_nets d) x.devices
 
   abbrev on_calls : List ℕ
   on_calls = flat_map (λ (r : CallRow). r.nets) x.calls
@@ -64,7 +52,7 @@ module _ (x : Circuit) where
       | inr d ↦
           let r = any_has (is_bad_device count) x.devices d in
           let n = device_has r.0 r.2 in
-          (n.0, in_right x.pins (on_devices ++ on_calls) n.0 (in_left on_devices on_calls n.0 (in_all terminal_nets x.devices r.0 n.0 r.1 n.1)), n.2)
+          (n.0, in_right x.pins (on_devices ++ on_calls) n.0 (in_left on_devices on_calls n.0 (in_all (λ (d : DeviceRow). terminal_nets d) x.devices r.0 n.0 r.1 n.1)), n.2)
     ]
   ]
 
@@ -73,7 +61,7 @@ module _ (x : Circuit) where
     | inl p ↦ or_left _ (list_any (is_bad_call count) x.calls) (or_left _ (list_any (is_bad_device count) x.devices) (any_listed (is_out count) x.pins n p (past_is count n l)))
     | inr q ↦ elim (either_side on_devices on_calls n q) [
       | inl d ↦
-          let r = from_all terminal_nets x.devices n d in
+          let r = from_all (λ (d : DeviceRow). terminal_nets d) x.devices n d in
           or_left _ (list_any (is_bad_call count) x.calls) (or_right (list_any (is_out count) x.pins) _ (any_listed (is_bad_device count) x.devices r.0 r.1 (has_device r.0 n r.2 l)))
       | inr c ↦
           let r = from_all (λ (y : CallRow). y.nets) x.calls n c in

@@ -1,5 +1,9 @@
 -- Netlists as plain records.
-use Rattle.std.specs.Prelude.{map}
+use Rattle.std.specs.Prelude.{ℕ, List, [], ◌∷◌, map, slice_index}
+use Rattle.fixed_num.specs.declared.femto.Femto.{Femto}
+use Rattle.plain_netlist.specs.declared.kinds.DeviceKind.{DeviceKind}
+use Rattle.plain_netlist.specs.declared.kinds.DeviceKind.TheVariants.{Mos4, ResistorWithBulk, Diode}
+use Rattle.plain_netlist.specs.Devices.{Ends, NoEnds, Both}
 use Rattle.plain_netlist.specs.Netlist.{DeviceRow as PlainDevice, CallRow as PlainCall}
 use Rattle.plain_netlist.specs.Netlist.{Circuit as PlainCircuit, Netlist as PlainNetlist}
 use Rattle.net_model.specs.declared.netlist.DeviceRow.{DeviceRow}
@@ -7,15 +11,24 @@ use Rattle.net_model.specs.declared.netlist.CallRow.{CallRow}
 use Rattle.net_model.specs.declared.netlist.Circuit.{Circuit}
 use Rattle.net_model.specs.declared.netlist.Netlist.{Netlist}
 
+-- the terminals of a kind among the nets of a device: what its ends and the others are
+abbrev pub ends_in : DeviceKind → List ℕ → Ends ℕ
+ends_in Mos4 nets = Both (slice_index nets 2) (slice_index nets 0)
+ends_in ResistorWithBulk nets = Both (slice_index nets 2) (slice_index nets 0)
+ends_in Diode nets = NoEnds
+
+abbrev pub others_in : DeviceKind → List ℕ → List ℕ
+others_in Mos4 nets = slice_index nets 1 ∷ slice_index nets 3 ∷ []
+others_in ResistorWithBulk nets = slice_index nets 1 ∷ []
+others_in Diode nets = slice_index nets 0 ∷ slice_index nets 1 ∷ []
+
 abbrev pub plain_device : DeviceRow → PlainDevice
 plain_device d = record {
+  kind = d.kind;
   class = d.class;
-  length = d.length.0;
-  width = d.width.0;
-  source = d.source;
-  gate = d.gate;
-  drain = d.drain;
-  bulk = d.bulk;
+  sizes = map (λ (f : Femto). f.0) d.sizes;
+  ends = ends_in d.kind d.nets;
+  others = others_in d.kind d.nets;
 }
 
 abbrev pub plain_call : CallRow → PlainCall

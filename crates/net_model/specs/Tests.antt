@@ -2,6 +2,7 @@
 use Rattle.std.specs.Prelude.{ℕ, ◌+◌, Bool, false, ◌==◌, ◌||◌, not, nat_lt, List, [], ◌∷◌, ◌++◌}
 use Rattle.std.specs.Prelude.{length, slice_get, Option, Some, None, if◌then◌else◌}
 use Rattle.std.specs.List.{list_any}
+use Rattle.plain_netlist.specs.Devices.{terminal_nets}
 use Rattle.plain_netlist.specs.Netlist.{DeviceRow, CallRow, Circuit}
 use Rattle.text_table.specs.Texts.{has_text}
 
@@ -30,8 +31,7 @@ abbrev pub is_out : ℕ → ℕ → Bool
 is_out count n = not (nat_lt n count)
 
 abbrev pub is_bad_device : ℕ → DeviceRow → Bool
-is_bad_device count d =
-    is_out count d.source || is_out count d.gate || is_out count d.drain || is_out count d.bulk
+is_bad_device count d = list_any (is_out count) (terminal_nets d)
 
 abbrev pub is_bad_call : ℕ → CallRow → Bool
 is_bad_call count r = list_any (is_out count) r.nets

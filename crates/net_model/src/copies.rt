@@ -17,7 +17,7 @@ pub fn copy_names(alloc: Global, names: &[Name]) -> Result<Vec<Name>, AllocError
     Ok(copy)
 }
 
-/// The same transistors.
+/// The same devices.
 pub fn copy_devices(alloc: Global, devices: &[DeviceRow]) -> Result<Vec<DeviceRow>, AllocError>
     ensures { IfOk result (λ copy.
         map plain_device copy.items ≡ map plain_device devices.now) }
@@ -40,18 +40,15 @@ fn copy_calls(alloc: Global, calls: &[CallRow]) -> Result<Vec<CallRow>, AllocErr
 }
 
 impl DeviceRow {
-    /// The same transistor.
+    /// The same device.
     pub fn try_clone(&self, alloc: Global) -> Result<DeviceRow, AllocError>
         ensures { IfOk result (λ d. plain_device d ≡ plain_device self.now) }
     {
         Ok(DeviceRow {
+            kind: self.kind,
             class: self.class.try_clone(alloc)?,
-            length: self.length,
-            width: self.width,
-            source: self.source,
-            gate: self.gate,
-            drain: self.drain,
-            bulk: self.bulk,
+            sizes: self.sizes,
+            nets: self.nets,
         })
     }
 }

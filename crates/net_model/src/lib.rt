@@ -1,4 +1,4 @@
-//! Netlists: circuits with nets, pins, transistors and calls of circuits; what is wrong with one.
+//! Netlists: circuits with nets, pins, devices and calls of circuits; what is wrong with one.
 //!
 //! Contracts see each type as the plain record of `plain_netlist` (`specs/Rows.antt`), where
 //! soundness, normal form and the faults of a netlist are defined.

@@ -24,10 +24,7 @@ fn has_out(count: usize, nets: &[u32]) -> bool
 fn is_bad_device(count: usize, d: &DeviceRow) -> bool
     ensures { result ≡ is_bad_device count (plain_device d.now) }
 {
-    is_out(count, d.source)
-        || is_out(count, d.gate)
-        || is_out(count, d.drain)
-        || is_out(count, d.bulk)
+    has_out(count, d.terminal_nets())
 }
 
 fn is_bad_call(count: usize, r: &CallRow) -> bool

@@ -19,6 +19,8 @@ use Rattle.flat_laws.proofs.Planned.{cell_not_before, item_at}
 use Rattle.flat_layout.specs.Circuits.{AreCircuitCells, AreCircuitNets, AreCircuitPins, AreDrawn, CircuitParts, IsCallOf, IsCircuitOf, IsDrawnBelow, pin_nets}
 use Rattle.flat_layout.specs.Expanded.{AreTablesRight, CircuitTables}
 use Rattle.flat_layout.specs.Gates.{Rule}
+use Rattle.plain_netlist.specs.declared.kinds.DeviceKind.TheVariants.{Diode}
+use Rattle.plain_netlist.specs.Devices.{NoEnds}
 use Rattle.flat_layout.specs.GateTables.{GateEntry, GateRow, Good, GoodGate, all_bad_gates, bad_gates}
 use Rattle.flat_layout.specs.GateTables as gate_tables
 use Rattle.flat_layout.specs.Layout as flat
@@ -75,7 +77,7 @@ one_unit libraries bytes name l m x y =
 
 -- as if each cell had a good gate, so that the cells with circuits are all that are reached
 abbrev no_row : GateRow
-no_row = record { twice_w = 0; twice_l = 0; source = 0; gate = 0; drain = 0; bulk = 0 }
+no_row = record { kind = Diode; twice_w = 0; twice_l = 0; ends = NoEnds; others = [] }
 
 abbrev some_gate : GoodGate
 some_gate = record { at = record { rule = 0; square = record { x = pos 0; y = pos 0 } }; row = no_row }

@@ -1,27 +1,22 @@
--- The classes of sound rules' devices are folded, show the kinds of the devices, and aren't empty.
-use Rattle.std.proofs.Common.{◌≡◌, inl, inr, ℕ, ◌<◌, ◌==◌, true, false, List, [], ◌∷◌, map, length, refl, ap, subst, arith}
+-- The classes of sound rules' devices are folded, and ones that cards have.
+use Rattle.std.proofs.Common.{◌≡◌, inl, inr, ℕ, ◌<◌, ◌==◌, true, false, List, [], ◌∷◌, map, length, refl, subst, arith}
 use Rattle.base_laws.proofs.Items.{map_from}
 use Rattle.std.proofs.lemmas.Bool.{and_parts}
 use Rattle.std.specs.Prelude.{nat_le}
 use Rattle.std.specs.List.{list_all}
-use Rattle.std.proofs.lemmas.List.{length-map}
 use Rattle.net_names.specs.Folding.{folded_byte, folded_bytes}
-use Rattle.plain_netlist.specs.Classes.{resistor_class, diode_class}
+use Rattle.plain_netlist.specs.declared.kinds.DeviceKind.TheVariants.{Mos4}
 use Rattle.rule_layers.specs.Meaning.{device_rule, device_rules, more_rule, mos_rules}
 use Rattle.rule_layers.proofs.Wired.{of_both}
 use Rattle.rule_text.specs.declared.rules.MosRule.{MosRule}
 use Rattle.rule_text.specs.declared.rules.MoreRule.{MoreRule}
 use Rattle.rule_text.specs.declared.rules.MoreRule.TheVariants as more
 use Rattle.rule_text.specs.Rows.{is_printable, is_string}
-use Rattle.rule_text.specs.Rules.{Rules, class_in}
+use Rattle.rule_text.specs.Rules.{Rules}
 use Rattle.rule_text.specs.Sound.{IsFormed}
 use Rattle.spice_laws.specs.Extracted.{AreClassed, IsClassed}
 use Rattle.spice_laws.proofs.GivenLemmas.{folded_fixed}
-use Rattle.spice_rows.specs.Params.{Transistor}
-use Rattle.spice_text.specs.Cards.{kind_of}
-
-some_bytes : (w : List ℕ) → is_string w ≡ true → 0 < length w
-some_bytes w e = let some = (and_parts (nat_le 1 (length w)) (list_all is_printable w) e).0 in grind (arith, some)
+use Rattle.spice_rows.specs.Rows.{is_class}
 
 -- a printable byte that is folded is neither 1 nor 2
 high : (b : ℕ) → is_printable b ≡ true → 2 < folded_byte b
@@ -30,29 +25,24 @@ high b e = let low = (and_parts (nat_le 0x20 b) (nat_le b 0x7E) e).0 in grind (a
 not_equal : (b k : ℕ) → k < b → (b == k) ≡ false
 not_equal b k lt = grind (arith, lt)
 
-plain_kind : (w : List ℕ) → is_string w ≡ true → kind_of (folded_bytes w) ≡ Transistor
-plain_kind [] e = refl
-plain_kind (b ∷ bs) e =
+model_of : (w : List ℕ) → is_string w ≡ true → is_class Mos4 (folded_bytes w) ≡ true
+model_of [] e = refl
+model_of (b ∷ bs) e =
     let printed = (and_parts (nat_le 1 (length (b ∷ bs))) (list_all is_printable (b ∷ bs)) e).1 in
     let up = high b (and_parts (is_printable b) (list_all is_printable bs) printed).0 in
     rw (not_equal (folded_byte b) 1 (omega (arith, up)), not_equal (folded_byte b) 2 up) refl
 
-folded_some : (w : List ℕ) → is_string w ≡ true → 0 < length (folded_bytes w)
-folded_some w e = let some = some_bytes w e in let long = length-map w folded_byte in omega (arith, some, long)
-
 mos_classed : (r : Rules) (m : MosRule) → is_string m.class ≡ true → IsClassed (device_rule r m)
-mos_classed r m e = record { folded = folded_fixed m.class; shows = plain_kind m.class e; some = folded_some m.class e }
+mos_classed r m e = record { folded = folded_fixed m.class; model = model_of m.class e }
 
-more_classed : (r : Rules) (m : MoreRule) → is_string (class_in m) ≡ true → IsClassed (more_rule r m)
-more_classed r (more.Resistor class n c w ta tw) e = record { folded = ap (λ (x : List ℕ). resistor_class x) (folded_fixed class); shows = refl; some = folded_some class e }
-more_classed r (more.Diode class p n ta tc) e = record { folded = ap (λ (x : List ℕ). diode_class x) (folded_fixed class); shows = refl; some = folded_some class e }
+more_classed : (r : Rules) (m : MoreRule) → IsClassed (more_rule r m)
+more_classed r (more.Resistor class n c w ta tw) = record { folded = folded_fixed class; model = refl }
+more_classed r (more.Diode class p n ta tc) = record { folded = folded_fixed class; model = refl }
 
 pub classed : (r : Rules) → IsFormed r → AreClassed (device_rules r)
 classed r formed k u is = elim (of_both (mos_rules r) (map (more_rule r) r.more) k u is) [
   | inl g ↦
       let m = map_from (device_rule r) r.devices k u g in
       subst IsClassed m.2 (mos_classed r m.0 (formed.strings k m.0 m.1))
-  | inr (j, g) ↦
-      let m = map_from (more_rule r) r.more j u g in
-      subst IsClassed m.2 (more_classed r m.0 (formed.more_strings j m.0 m.1))
+  | inr (j, g) ↦ let m = map_from (more_rule r) r.more j u g in subst IsClassed m.2 (more_classed r m.0)
 ]

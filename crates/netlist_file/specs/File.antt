@@ -25,7 +25,6 @@ use Rattle.plain_netlist.specs.Sound.{IsSoundNetlist}
 use Rattle.rule_text.specs.Rules.{Rules}
 use Rattle.shapes_file.specs.File.{IsShapesFile, IsWide}
 use Rattle.spice_laws.specs.Spelled.{IsSpelled}
-use Rattle.spice_text.specs.Cards.{FitCards}
 use Rattle.spice_text.specs.Written.{IsWritten}
 
 -- the netlist of the layout's cells, in which circuit top is the top's, their bad gates in the
@@ -63,10 +62,9 @@ abbrev pub AreFiles : Layout → Rules → Files → Type 0
 AreFiles l r (Whole e) = HasFiles l r e
 AreFiles l r (Wide cell) = IsWide l r cell
 
--- what is extracted: its netlist can be written, and any text of it makes the netlist file
+-- what is extracted: any text of its netlist makes the netlist file
 pub record IsExtracted (l : Layout) (r : Rules) (c : Cells) : Type 0 where
   pub layers : AreLayers (plain l.design) r c.layers
-  pub fits : FitCards (plain_netlist c.netlist)
   pub file : (text : List ℕ) → IsWritten (plain_netlist c.netlist) text
       → IsNetlistFile l r (plain_netlist c.netlist) c.top c.bad.items text
   pub sound : IsSoundNetlist (plain_netlist c.netlist)

@@ -9,7 +9,6 @@ ghost use Rattle.netlist_file.specs.File.{AreFiles, HasNetlist, IsExtracted};
 ghost use Rattle.rule_text.specs.Seen.{rules_seen};
 ghost use Rattle.rule_text.specs.Sound.{IsSound};
 ghost use Rattle.shapes_file.specs.File.{IsDrawing};
-ghost use Rattle.spice_text.specs.Cards.{FitCards};
 ghost use Rattle.spice_text.specs.Written.{IsWritten};
 
 use deep_flow::extract;
@@ -112,7 +111,6 @@ fn both_texts<R: Threads, G>(
     requires read { (bytes : List ℕ) × (top : Option (List ℕ)) × IsRead bytes top layout.now }
     requires rules { IsSound (rules_seen rules.now) }
     requires layers { AreLayers (plain layout.now.design) (rules_seen rules.now) layers.now }
-    requires fits { FitCards (plain_netlist netlist.now) }
     ensures drawing { IfOk result.0 (IsDrawing layout.now (rules_seen rules.now)) }
     ensures text { IfOk result.1 (λ text. IsWritten (plain_netlist netlist.now) text.items) }
 {

@@ -1,14 +1,15 @@
 -- What is told of loaded files.
-use Rattle.std.proofs.Common.{◌≡◌, ◌<◌, ◌≤◌, ℕ, suc, Bool, true, false, List, [], ◌∷◌, ◌++◌, length, refl, sym, ◌∙◌, ap, subst, append_assoc, arith}
+use Rattle.std.proofs.Common.{◌≡◌, ◌<◌, ◌≤◌, ℕ, Result, Err, suc, Bool, true, false, List, [], ◌∷◌, ◌++◌, length, refl, sym, ◌∙◌, ap, subst, append_assoc, arith}
 use Rattle.std.proofs.lemmas.Bool.{or_from, or_parts}
 use Rattle.std.specs.Prelude.{string_bytes, if◌then◌else◌, ◌||◌}
 use Rattle.std.specs.List.{list_any}
 use Rattle.std.specs.Str.{bytes_eq}
 use Rattle.std.proofs.lemmas.List.{append-nil, length-append}
-use Rattle.std.proofs.lemmas.List.Elements.{All-weaker, All-push}
+use Rattle.std.proofs.lemmas.List.Elements.{All-append, All-cons, All-nil, All-weaker, All-push}
 use Rattle.lvs_outside.specs.Loops.{IsFile, IsLonger, IsRest, TellsAll, limit}
-use Rattle.lvs_outside.specs.Store.{Store, Told, Untold, NoFile, Holds, Open, Reading, IsAbsent, IsThere, SameFiles, counted}
-use Rattle.netlist_join.specs.Loaded.{AreFiles, paths_of, has_path, has_twins, with_path, with_paths, StartsWith, SaysFailed}
+use Rattle.lvs_outside.specs.Store.{Store, Told, Untold, NoFile, Holds, Open, Reading, IsAbsent, IsThere, SameFiles, SameRest, counted}
+use Rattle.netlist_join.specs.Failing.{IsAsked, NotRead, OnlyReads, SaysFailed, ShowsFaults}
+use Rattle.netlist_join.specs.Loaded.{AreFiles, IsMore, paths_of, has_path, has_twins, with_path, with_paths, StartsWith}
 use Rattle.netlist_join.specs.declared.files.File.{File}
 use Rattle.netlist_join.specs.declared.files.Failed.{Failed}
 use Rattle.netlist_join.specs.declared.files.Failed.TheVariants.{Outside, Absent, TooLong, TooMany, NoMemory}
@@ -98,13 +99,59 @@ clear (p ∷ paths) = clear paths
 pub apart : (all paths : List (List ℕ)) → StartsWith all (with_paths [] paths) → has_twins paths ≡ false → StartsWith all paths
 apart all paths h e = (h.0, h.1 ∙ ap (λ (ps : List (List ℕ)). ps ++ h.0) (apart_from [] paths (clear paths) e))
 
--- why, from an earlier store on
-pub from_before : (a b c : Store) (e : Failed) → SameFiles a b → (counted b).faults ≡ (counted a).faults → SaysFailed b c e → SaysFailed a c e
-from_before a b c Outside same quiet h = subst (λ (n : ℕ). n < (counted c).faults) quiet h
-from_before a b c (Absent path) same quiet h = (subst (λ (x : Told). IsAbsent x) (same (string_bytes path)) h.0, h.1)
-from_before a b c (TooLong path) same quiet h = subst (λ (x : Told). IsLonger limit x 0) (same (string_bytes path)) h
-from_before a b c TooMany same quiet h = record { files = h.files; told = go_back a b h.files same h.told; apart = h.apart; many = h.many }
-from_before a b c NoMemory same quiet h = tt
+-- reading on
+pub reads_on : (a b c : Store) → OnlyReads a b → OnlyReads b c → OnlyReads a c
+reads_on a b c h g = record {
+  none = record { files = λ p. g.none.files p ∙ h.none.files p; left_open = g.none.left_open ∙ h.none.left_open };
+  write_calls = g.write_calls ∙ h.write_calls;
+}
+
+pub reads_rest : (a b : Store) → SameRest a b → OnlyReads a b
+reads_rest a b h = record { none = record { files = h.files; left_open = h.left_open }; write_calls = h.write_calls }
+
+pub reads_none : (a : Store) → OnlyReads a a
+reads_none a = record { none = record { files = λ p. refl; left_open = refl }; write_calls = refl }
+
+-- faults, from an earlier store on
+pub faults_from : (A B : Type 0) (a b c : Store) (e : Failed) → (counted b).faults ≡ (counted a).faults → ShowsFaults {A = A} b c (Err e) → ShowsFaults {A = B} a c (Err e)
+faults_from A B a b c Outside quiet h = subst (λ (n : ℕ). n < (counted c).faults) quiet h
+faults_from A B a b c (Absent path) quiet h = h ∙ quiet
+faults_from A B a b c (TooLong path) quiet h = h ∙ quiet
+faults_from A B a b c TooMany quiet h = h ∙ quiet
+faults_from A B a b c NoMemory quiet h = h ∙ quiet
+
+-- why, from an earlier store on, of paths among others
+pub not_read_from : (Is Was : List ℕ → Type 0) (a b c : Store) (e : Failed) → ((p : List ℕ) → Was p → Is p) → SameFiles a b → NotRead Was b c e → NotRead Is a c e
+not_read_from Is Was a b c Outside wider same h = tt
+not_read_from Is Was a b c (Absent path) wider same h = (wider (string_bytes path) h.0, subst (λ (x : Told). IsAbsent x) (same (string_bytes path)) h.1, h.2)
+not_read_from Is Was a b c (TooLong path) wider same h = (wider (string_bytes path) h.0, subst (λ (x : Told). IsLonger limit x 0) (same (string_bytes path)) h.1)
+not_read_from Is Was a b c TooMany wider same h = absurd h
+not_read_from Is Was a b c NoMemory wider same h = tt
+
+-- why the files of inputs weren't loaded, by why one of these paths wasn't
+pub not_loaded : (inputs : List (List ℕ)) (Was : List ℕ → Type 0) (a b c : Store) (e : Failed) → ((p : List ℕ) → Was p → IsAsked a.file inputs p) → SameFiles a b → NotRead Was b c e
+    → SaysFailed inputs a c e
+not_loaded inputs Was a b c Outside wider same h = tt
+not_loaded inputs Was a b c (Absent path) wider same h = not_read_from (λ p. IsAsked a.file inputs p) Was a b c (Absent path) wider same h
+not_loaded inputs Was a b c (TooLong path) wider same h = not_read_from (λ p. IsAsked a.file inputs p) Was a b c (TooLong path) wider same h
+not_loaded inputs Was a b c TooMany wider same h = absurd h
+not_loaded inputs Was a b c NoMemory wider same h = tt
+
+-- files behind some
+pub more_none : (Is : List ℕ → Type 0) (files : List File) → IsMore Is files files
+more_none Is files = record { more = []; whole = sym (append-nil files); each = All-nil (λ (f : File). Is (string_bytes f.path)) }
+
+pub more_one : (files after : List File) (path : List ℕ) (f : File) → string_bytes f.path ≡ path → after ≡ files ++ f ∷ [] → IsMore (λ p. p ≡ path) files after
+more_one files after path f e is =
+    record { more = f ∷ []; whole = is; each = All-cons (λ (g : File). string_bytes g.path ≡ path) f [] e (All-nil (λ (g : File). string_bytes g.path ≡ path)) }
+
+pub more_on : (Is : List ℕ → Type 0) (path : List ℕ) (a b c : List File) → Is path → IsMore Is a b → IsMore (λ p. p ≡ path) b c → IsMore Is a c
+more_on Is path a b c there h g = record {
+  more = h.more ++ g.more;
+  whole = g.whole ∙ ap (λ (fs : List File). fs ++ g.more) h.whole ∙ append_assoc a h.more g.more;
+  each = All-append (λ (f : File). Is (string_bytes f.path)) h.more g.more h.each
+      (All-weaker (λ (f : File). string_bytes f.path ≡ path) (λ (f : File). Is (string_bytes f.path)) (λ f e. subst (λ (p : List ℕ). Is p) (sym e) there) g.more g.each);
+}
 
 -- ---- different paths, and their number
 
@@ -136,10 +183,10 @@ apart_at_first before after more none e =
     let all : paths_of after ≡ with_paths [] more = e ∙ ap (λ (fs : List File). with_paths (paths_of fs) more) none in
     subst (λ (ps : List (List ℕ)). has_twins ps ≡ false) (sym all) (stay_apart [] more refl)
 
-length_starts : (first all : List (List ℕ)) → StartsWith all first → length first ≤ length all
+pub length_starts : (first all : List (List ℕ)) → StartsWith all first → length first ≤ length all
 length_starts first all s = subst (λ (ps : List (List ℕ)). length first ≤ length ps) (sym s.1) (subst (λ (n : ℕ). length first ≤ n) (sym (length-append first s.0)) (omega (arith)))
 
-paths_length : (files : List File) → length (paths_of files) ≡ length files
+pub paths_length : (files : List File) → length (paths_of files) ≡ length files
 paths_length [] = refl
 paths_length (f ∷ files) = ap (λ (n : ℕ). suc n) (paths_length files)
 

@@ -5,13 +5,14 @@ use Rattle.std.specs.List.{position_or_len}
 use Rattle.spice_cards.specs.Tokens.{is_blank}
 use Rattle.spice_rows.specs.Names.{is_text}
 
--- `.INCLUDE path`, `.LIB path section`, `.LIB section`, which begins a section, and `.ENDL`
+-- `.INCLUDE path`, `.LIB path section`, `.LIB section`, which begins a section, `.ENDL`, and `.END`
 pub data Directive : Type 0 where
   Nothing : Directive
   Include : (path : List ℕ) → Directive
   Section : (path name : List ℕ) → Directive
   Begins : (name : List ℕ) → Directive
   Ends : Directive
+  EndsFile : Directive
   Bad : Directive
 
 -- a word, and what stands behind it
@@ -83,6 +84,7 @@ directive_split (Some s) =
     then include_split (next_word s.behind)
     else if is_text (codes ".LIB") s.word then library_split (next_word s.behind)
     else if is_text (codes ".ENDL") s.word then Ends
+    else if is_text (codes ".END") s.word then EndsFile
     else Nothing
 
 -- by the line's first word

@@ -3,23 +3,29 @@
 use Rattle.std.specs.Prelude.{ℕ, zero, suc, ◌+◌, ◌-◌, ◌^◌, ◌==◌, ◌&&◌, min, Bool, true, false, List, [], ◌∷◌, ◌++◌}
 use Rattle.std.specs.Prelude.{slice_get, Option, Some, None, Result, Ok, Err, string_bytes, if◌then◌else◌}
 use Rattle.rule_lines.specs.Lines.{begins, lines_of}
-use Rattle.netlist_lines.specs.Cleaning.{with_line}
-use Rattle.netlist_join.specs.Directives.{Directive, Nothing, Include, Section, Bad, directive, without_blanks}
+use Rattle.netlist_lines.specs.Cleaning.{has_comment, with_line}
+use Rattle.netlist_join.specs.Directives.{Directive, Nothing, Include, Section, Bad, EndsFile, directive, without_blanks}
 use Rattle.netlist_join.specs.Parts.{Taking, taking_of, takes, behind}
-use Rattle.netlist_join.specs.Paths.{beside, find}
+use Rattle.netlist_join.specs.Paths.{beside, find, text_of}
 use Rattle.netlist_join.specs.declared.files.File.{File}
 use Rattle.netlist_join.specs.declared.join.Origin.{Origin}
 use Rattle.netlist_join.specs.declared.join.Why.TheVariants.{Absent, Deep, NoSection, BadForm, OpenQuotes, EarlyMore}
 use Rattle.netlist_join.specs.declared.join.JoinFault.{JoinFault}
 use Rattle.netlist_join.specs.declared.join.JoinFault.TheVariants.{At}
 
--- a text, where each of its lines came from, whether the next line is a title, and whether no card
--- stands before it in its file or behind the file that was taken in last
+-- a text, where each of its lines came from, whether the next line is a title, whether no card
+-- stands before it in its file or behind the file that was taken in last, and how many comments at
+-- the ends of lines were left out
 pub record Made : Type 0 where
   pub text : List ℕ
   pub origins : List Origin
   pub has_title : Bool
   pub is_fresh : Bool
+  pub comments : ℕ
+
+-- one more, up to what 64 bits hold
+abbrev pub raised : ℕ → ℕ
+raised n = min (n + 1) (2 ^ 64 - 1)
 
 abbrev pub Outcome : Type 0
 Outcome = Result Made JoinFault
@@ -44,11 +50,18 @@ abbrev pub onto : Made → Origin → Option (List ℕ) → Outcome
 onto m at None = Err (At OpenQuotes at)
 onto m at (Some text) = Ok (ended (record m { text = text }) at)
 
+-- behind a line
+abbrev pub behind_line : Made → List ℕ → Made
+behind_line m line = record m {
+  is_fresh = is_fresh_behind m.is_fresh line;
+  comments = if has_comment line then raised m.comments else m.comments;
+}
+
 -- a line, cleaned
 abbrev pub shown : Made → List ℕ → Origin → Outcome
 shown m line at =
     if m.is_fresh && begins 0x2B (without_blanks line) then Err (At EarlyMore at)
-    else onto (record m { is_fresh = is_fresh_behind m.is_fresh line }) at (with_line m.text line)
+    else onto (behind_line m line) at (with_line m.text line)
 
 -- a line; of a title nothing is left but its end
 abbrev pub pushed : Made → List ℕ → Origin → Outcome
@@ -65,11 +78,17 @@ abbrev pub call_to : Option ℕ → Option (List ℕ) → Origin → Result (Opt
 call_to None section at = Err (At Absent at)
 call_to (Some k) section at = Ok (Some (record { file = k; section = section }))
 
+abbrev pub call_at : List File → Option (List ℕ) → Option (List ℕ) → Origin
+    → Result (Option Call) JoinFault
+call_at files None section at = Err (At BadForm at)
+call_at files (Some path) section at = call_to (find path files) section at
+
+-- the file of the path that a line names, which is text
 abbrev pub call_in : List File → Option File → List ℕ → Option (List ℕ) → Origin
     → Result (Option Call) JoinFault
 call_in files None path section at = Err (At Absent at)
 call_in files (Some f) path section at =
-    call_to (find (beside (string_bytes f.path) path) files) section at
+    call_at files (text_of (beside (string_bytes f.path) path)) section at
 
 -- the file that a line takes in
 abbrev pub call_of : List File → Directive → Origin → Result (Option Call) JoinFault
@@ -102,15 +121,24 @@ abbrev pub line_if : Bool → (Call → Origin → Made → Outcome) → List Fi
 line_if takes inner files d line at m = if takes then line_joined inner files d line at m else Ok m
 
 abbrev pub next : Origin → Origin
-next at = record at { line = min (at.line + 1) (2 ^ 64 - 1) }
+next at = record at { line = raised at.line }
 
--- the lines of a file behind one, in their order; a section that is asked for stands there
+-- behind the last line of a file that is taken; a section that is asked for stands there
+abbrev pub file_ended : Origin → Taking → Made → Outcome
+file_ended by t m = if t.is_met then Ok m else Err (At NoSection by)
+
+abbrev pub ends_file : Directive → Bool
+ends_file EndsFile = true
+ends_file d = false
+
+-- the lines of a file behind one, in their order, up to its `.END`
 abbrev pub lines_joined : (Call → Origin → Made → Outcome) → List File → Origin → Taking → Origin
     → List (List ℕ) → Made → Outcome
-lines_joined inner files by t at [] m = if t.is_met then Ok m else Err (At NoSection by)
+lines_joined inner files by t at [] m = file_ended by t m
 lines_joined inner files by t at (line ∷ lines) m =
     and_then (line_if (takes t (said m line)) inner files (said m line) line (next at) m)
-    (λ made. lines_joined inner files by (behind t (said m line)) (next at) lines made)
+    (λ made. if ends_file (said m line) then file_ended by (behind t (said m line)) made
+    else lines_joined inner files by (behind t (said m line)) (next at) lines made)
 
 abbrev pub bytes_joined : (Call → Origin → Made → Outcome) → List File → Call → Origin
     → Option File → Made → Outcome
@@ -141,4 +169,4 @@ all_joined (suc n) files k m =
 abbrev pub joined : List File → ℕ → Bool → Outcome
 joined files count has_title =
     all_joined count files 0
-    (record { text = []; origins = []; has_title = has_title; is_fresh = true })
+    (record { text = []; origins = []; has_title = has_title; is_fresh = true; comments = 0 })

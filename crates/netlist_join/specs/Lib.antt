@@ -2,5 +2,8 @@ pub mod Directives
 pub mod Parts
 pub mod Paths
 pub mod Loaded
+pub mod Named
+pub mod Failing
 pub mod Joining
 pub mod Seen
+pub mod JoinLaw

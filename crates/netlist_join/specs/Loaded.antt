@@ -1,13 +1,11 @@
--- Which files are loaded, what they hold, and why one isn't.
-use Rattle.std.specs.Prelude.{◌≡◌, ◌<◌, ℕ, Bool, false, ◌||◌, List, [], ◌∷◌, ◌++◌, map}
-use Rattle.std.specs.Prelude.{string_bytes, if◌then◌else◌, length}
+-- Loaded files: their paths, and what they hold.
+use Rattle.std.specs.Prelude.{◌≡◌, ℕ, Bool, false, ◌||◌, List, [], ◌∷◌, ◌++◌, map}
+use Rattle.std.specs.Prelude.{string_bytes, if◌then◌else◌}
 use Rattle.std.specs.List.{All, list_any}
 use Rattle.std.specs.Str.{bytes_eq}
-use Rattle.lvs_outside.specs.Loops.{IsFile, IsLonger, limit}
-use Rattle.lvs_outside.specs.Store.{Store, Told, IsAbsent, counted}
+use Rattle.lvs_outside.specs.Loops.{IsFile}
+use Rattle.lvs_outside.specs.Store.{Told}
 use Rattle.netlist_join.specs.declared.files.File.{File}
-use Rattle.netlist_join.specs.declared.files.Failed.{Failed}
-use Rattle.netlist_join.specs.declared.files.Failed.TheVariants.{Outside, Absent, TooLong, TooMany, NoMemory}
 
 abbrev pub paths_of : List File → List (List ℕ)
 paths_of files = map (λ f. string_bytes f.path) files
@@ -31,28 +29,13 @@ with_paths paths (p ∷ ps) = with_paths (with_path paths p) ps
 abbrev pub StartsWith : List (List ℕ) → List (List ℕ) → Type 0
 StartsWith all first = (rest : List (List ℕ)) × (all ≡ first ++ rest)
 
+-- files behind some, whose paths are all such
+pub record IsMore (Is : List ℕ → Type 0) (old new : List File) : Type 0 where
+  pub more : List File
+  pub whole : new ≡ old ++ more
+  pub each : All (λ f. Is (string_bytes f.path)) more
+
 -- a path stands twice
 abbrev pub has_twins : List (List ℕ) → Bool
 has_twins [] = false
 has_twins (p ∷ ps) = list_any (λ q. bytes_eq p q) ps || has_twins ps
-
--- the most files that are loaded
-abbrev pub most : ℕ
-most = 10000
-
--- files of different paths, more than the most, with what the store tells of each
-pub record AreTooMany (old : Store) : Type 0 where
-  pub files : List File
-  pub told : AreFiles old.file files
-  pub apart : has_twins (paths_of files) ≡ false
-  pub many : most < length files
-
--- why files weren't loaded: the store answered that a path has no file, a file is told to be longer
--- than is taken, more files than the most were loaded, or a call on the store failed
-abbrev pub SaysFailed : Store → Store → Failed → Type 0
-SaysFailed old new Outside = (counted old).faults < (counted new).faults
-SaysFailed old new (Absent path) =
-    IsAbsent (old.file (string_bytes path)) × (new.last_absent ≡ string_bytes path)
-SaysFailed old new (TooLong path) = IsLonger limit (old.file (string_bytes path)) 0
-SaysFailed old new TooMany = AreTooMany old
-SaysFailed old new NoMemory = Unit {0}

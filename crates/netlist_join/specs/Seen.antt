@@ -23,6 +23,7 @@ says (code.Include path) = spec.Include path.now
 says (code.Section path name) = spec.Section path.now name.now
 says (code.Begins name) = spec.Begins name.now
 says code.Ends = spec.Ends
+says code.EndsFile = spec.EndsFile
 says code.Bad = spec.Bad
 
 abbrev pub taking_seen : Part → Taking
@@ -41,6 +42,7 @@ seen j = record {
   origins = j.origins.items;
   has_title = j.has_title;
   is_fresh = j.is_fresh;
+  comments = j.comments;
 }
 
 -- the answer is this fault, or that there is no memory

@@ -21,6 +21,8 @@ pub enum Directive<'a> {
     Begins(&'a [u8]),
     /// `.ENDL`
     Ends,
+    /// `.END`
+    EndsFile,
     Bad,
 }
 
@@ -175,6 +177,9 @@ pub fn directive_of(line: &[u8]) -> Directive
     }
     if is_text(word, b".ENDL") {
         return Directive::Ends;
+    }
+    if is_text(word, b".END") {
+        return Directive::EndsFile;
     }
     Directive::None
 }

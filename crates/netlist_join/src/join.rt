@@ -1,19 +1,21 @@
 //! One text of the lines of files, with those of the files that they name in their places.
 
-ghost use Rattle.std.specs.Prelude.{◌≡◌, IfOk, IfErr, OnOk, Ok, Err, Some, None, slice_get};
+ghost use Rattle.std.specs.Prelude.{◌≡◌, ◌≤◌, IfOk, IfErr, OnOk, Ok, Err, Some, None, slice_get};
+ghost use Rattle.std.specs.Prelude.{[], length, if◌then◌else◌};
 ghost use Rattle.std.specs.Option.{option_copied};
 ghost use Rattle.netlist_join.specs.Joining.{call_in, call_of, ended, file_joined, has_card};
-ghost use Rattle.netlist_join.specs.Joining.{joined, pushed, said, shown};
+ghost use Rattle.netlist_join.specs.Joining.{ends_file, joined, pushed, said, shown};
 ghost use Rattle.netlist_join.specs.Directives.{without_blanks};
-ghost use Rattle.netlist_join.specs.Paths.{beside, find};
-ghost use Rattle.rule_lines.specs.Lines.{begins};
+ghost use Rattle.netlist_join.specs.JoinLaw.{AllThereLaw};
+ghost use Rattle.netlist_join.specs.Paths.{beside, find, text_of};
+ghost use Rattle.rule_lines.specs.Lines.{begins, lines_of};
 ghost use Rattle.netlist_join.specs.Seen.{SaysFault, call_seen, call_some, says, seen};
 ghost use Rattle.netlist_join.specs.declared.join.JoinFault.TheVariants.{NoMemory};
 
 use crate::directive::{Directive, directive_of, skip_blanks};
-use crate::files::{File, beside, find};
+use crate::files::{File, find, path_beside};
 use crate::part::Part;
-use netlist_lines::clean_line;
+use netlist_lines::{Cleaned, clean_line};
 use rule_lines::next_line;
 use std::alloc::{AllocError, Global};
 
@@ -57,6 +59,8 @@ impl From<AllocError> for JoinFault {
 pub struct Joined {
     pub text: Vec<u8>,
     pub origins: Vec<Origin>,
+    /// How many comments at the ends of lines were left out, up to 2^64 - 1.
+    pub comments: u64,
     has_title: bool,
     is_fresh: bool,
 }
@@ -69,19 +73,6 @@ const DEPTH: u32 = 32;
 struct Call<'a> {
     file: usize,
     section: Option<&'a [u8]>,
-}
-
-// The number of the file of a path that stands beside this one.
-fn file_beside(
-    alloc: Global,
-    files: &[File],
-    own: &[u8],
-    path: &[u8],
-) -> Result<Option<usize>, AllocError>
-    ensures { IfOk result (λ k. k ≡ find (beside own.now path.now) files.now) }
-{
-    let path = beside(alloc, own, path)?;
-    Ok(find(files, path.as_slice()))
 }
 
 // The file of the path that a line names.
@@ -100,7 +91,10 @@ fn called<'a>(
     let Some(file) = files.get(at.file) else {
         return Err(JoinFault::At(Why::Absent, at));
     };
-    match file_beside(alloc, files, file.path.as_bytes(), path)? {
+    let Some(path) = path_beside(alloc, file, path)? else {
+        return Err(JoinFault::At(Why::BadForm, at));
+    };
+    match find(files, path.as_bytes()) {
         Some(file) => Ok(Some(Call { file, section })),
         None => Err(JoinFault::At(Why::Absent, at)),
     }
@@ -122,6 +116,7 @@ fn call_of<'a>(
         Directive::Bad => Err(JoinFault::At(Why::BadForm, at)),
         Directive::Begins(_) => Ok(None),
         Directive::Ends => Ok(None),
+        Directive::EndsFile => Ok(None),
         Directive::None => Ok(None),
     }
 }
@@ -166,8 +161,10 @@ impl Joined {
         if has_card(line) {
             self.is_fresh = false;
         }
-        if !clean_line(&mut self.text, line)? {
-            return Err(JoinFault::At(Why::OpenQuotes, at));
+        match clean_line(&mut self.text, line)? {
+            Cleaned::Open => return Err(JoinFault::At(Why::OpenQuotes, at)),
+            Cleaned::Cut => self.comments = self.comments.saturating_add(1),
+            Cleaned::Whole => {}
         }
         self.end_line(at)?;
         Ok(())
@@ -197,8 +194,20 @@ impl Joined {
     }
 }
 
+// What is read behind a line: nothing of its file behind `.END`.
+fn lines_behind<'a>(directive: Directive, behind: &'a [u8]) -> &'a [u8]
+    ensures lines { lines_of result.now ≡ (if ends_file (says directive.entry) then []
+        else lines_of behind.now) }
+    ensures less { length result.now ≤ length behind.now }
+{
+    match directive {
+        Directive::EndsFile => b"",
+        _ => behind,
+    }
+}
+
 // Adds the lines of a file, or of a section of it, that a line takes in.
-#[tactic(auto, using(crate::proofs::Steps::file_step))]
+#[tactic(auto, using(crate::proofs::Steps::file_step, crate::proofs::Steps::lines_rest))]
 fn join_file(
     alloc: Global,
     files: &[File],
@@ -236,7 +245,7 @@ fn join_file(
                 joined.is_fresh = true;
             }
         }
-        rest = behind;
+        rest = lines_behind(directive, behind);
     }
     if !part.is_met {
         return Err(JoinFault::At(Why::NoSection, by));
@@ -260,6 +269,7 @@ pub fn join_files(
     let mut joined = Joined {
         text: Vec::new(alloc),
         origins: Vec::new(alloc),
+        comments: 0,
         has_title,
         is_fresh: true,
     };
@@ -275,3 +285,8 @@ pub fn join_files(
     }
     Ok(joined)
 }
+
+/// Where all that the inputs ask for was loaded, no line is refused for a file that isn't there.
+pub fn joined_laws()
+    ensures { AllThereLaw }
+{}

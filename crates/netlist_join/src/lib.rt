@@ -8,4 +8,4 @@ mod join;
 mod part;
 
 pub use files::{Failed, File, load_files};
-pub use join::{JoinFault, Joined, Origin, Why, join_files};
+pub use join::{JoinFault, Joined, Origin, Why, join_files, joined_laws};

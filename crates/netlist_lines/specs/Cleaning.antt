@@ -1,10 +1,12 @@
 -- A line of a netlist as netlisters write it, made a line of the profile: the comment at its end is
 -- left out, a backslash stands for itself, and what stands in quotes behind `=` is one word.
-use Rattle.std.specs.Prelude.{ℕ, Bool, true, false, ◌==◌, ◌&&◌, ◌||◌, List, [], ◌∷◌, ◌++◌}
+use Rattle.std.specs.Prelude.{◌≡◌, ℕ, Bool, true, false, ◌==◌, ◌&&◌, ◌||◌, List, [], ◌∷◌, ◌++◌}
 use Rattle.std.specs.Prelude.{Option, Some, None, if◌then◌else◌}
 use Rattle.spice_cards.specs.Tokens.{is_blank}
 use Rattle.netlist_lines.specs.declared.cleaning.At.{At}
 use Rattle.netlist_lines.specs.declared.cleaning.At.TheVariants.{Before, Value, Within, Escaped, Quoted}
+use Rattle.netlist_lines.specs.declared.cleaning.Cleaned.{Cleaned}
+use Rattle.netlist_lines.specs.declared.cleaning.Cleaned.TheVariants.{Whole, Cut, Open}
 
 -- ' or "
 abbrev pub is_quote : ℕ → Bool
@@ -67,6 +69,11 @@ cleaned made at (b ∷ bytes) =
     if begins_comment at b bytes then Some made
     else cleaned (made ++ (step at b).text) (step at b).at bytes
 
+-- where reading stands so, a comment begins in the rest of a line
+abbrev pub is_cut : At → List ℕ → Bool
+is_cut at [] = false
+is_cut at (b ∷ bytes) = if begins_comment at b bytes then true else is_cut (step at b).at bytes
+
 -- a text with what a line becomes behind it, none where quotes don't end: blanks before the line's
 -- first word are left out, and all of a line whose first word begins with `*`
 abbrev pub with_line : List ℕ → List ℕ → Option (List ℕ)
@@ -76,3 +83,18 @@ with_line text (b ∷ bytes) =
     else if b == 0x2A then Some text
     else if b == 0x2B then cleaned (text ++ b ∷ []) Before bytes
     else cleaned text Before (b ∷ bytes)
+
+-- a comment ends the line
+abbrev pub has_comment : List ℕ → Bool
+has_comment [] = false
+has_comment (b ∷ bytes) =
+    if is_blank b then has_comment bytes
+    else if b == 0x2A then false
+    else if b == 0x2B then is_cut Before bytes
+    else is_cut Before (b ∷ bytes)
+
+-- what came of a line, which makes this of the text, and in which a comment is cut or not
+abbrev pub Comes : Option (List ℕ) → Bool → List ℕ → Cleaned → Type 0
+Comes made cut text Open = made ≡ None
+Comes made cut text Whole = (made ≡ Some text) × (cut ≡ false)
+Comes made cut text Cut = (made ≡ Some text) × (cut ≡ true)

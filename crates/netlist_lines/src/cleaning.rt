@@ -1,9 +1,9 @@
 //! A line without comment, whose words the profile reads as they stand.
 
-ghost use Rattle.std.specs.Prelude.{◌≡◌, ◌++◌, false, IfOk, OnOk, MatchBool, Some, None};
+ghost use Rattle.std.specs.Prelude.{◌≡◌, ◌++◌, false, IfOk, OnOk};
 ghost use Rattle.spice_cards.specs.Tokens.{is_blank};
-ghost use Rattle.netlist_lines.specs.Cleaning.{begins_blank, begins_comment, cleaned};
-ghost use Rattle.netlist_lines.specs.Cleaning.{with_line};
+ghost use Rattle.netlist_lines.specs.Cleaning.{Comes, begins_blank, begins_comment, cleaned};
+ghost use Rattle.netlist_lines.specs.Cleaning.{has_comment, is_cut, with_line};
 ghost use Rattle.netlist_lines.specs.Cleaning.{ends_word, in_word, is_quote, spelled, step};
 
 use std::alloc::AllocError;
@@ -17,6 +17,14 @@ pub enum At {
     Within,
     Escaped,
     Quoted(u8),
+}
+
+/// What came of a line: it is whole, a comment at its end was left out, or quotes in it don't end.
+#[derive(Clone, Copy, Debug)]
+pub enum Cleaned {
+    Whole,
+    Cut,
+    Open,
 }
 
 fn is_blank(b: u8) -> bool
@@ -140,37 +148,34 @@ fn begins_comment(at: At, b: u8, behind: &[u8]) -> bool
     }
 }
 
-// Adds what the rest of a line becomes, or answers false where quotes don't end.
-fn clean(out: &mut Vec<u8>, bytes: &[u8]) -> Result<bool, AllocError>
-    ensures { IfOk result (λ whole. MatchBool whole
-        (cleaned out.old.items At.Before bytes.now ≡ Some out.new.items)
-        (cleaned out.old.items At.Before bytes.now ≡ None)) }
+// Adds what the rest of a line becomes.
+fn clean(out: &mut Vec<u8>, bytes: &[u8]) -> Result<Cleaned, AllocError>
+    ensures { IfOk result (Comes (cleaned out.old.items At.Before bytes.now)
+        (is_cut At.Before bytes.now) out.new.items) }
 {
     let mut at = At::Before;
     let mut rest = bytes;
     'bytes: while let [b, more @ ..] = rest {
         if begins_comment(at, *b, more) {
-            return Ok(true);
+            return Ok(Cleaned::Cut);
         }
         at = take(out, at, *b)?;
         rest = more;
     }
     match at {
-        At::Quoted(_) => Ok(false),
-        At::Before => Ok(true),
-        At::Value => Ok(true),
-        At::Within => Ok(true),
-        At::Escaped => Ok(true),
+        At::Quoted(_) => Ok(Cleaned::Open),
+        At::Before => Ok(Cleaned::Whole),
+        At::Value => Ok(Cleaned::Whole),
+        At::Within => Ok(Cleaned::Whole),
+        At::Escaped => Ok(Cleaned::Whole),
     }
 }
 
 /// Adds what a line becomes: its comment is left out, a backslash stands for itself up to the end
-/// of its word, and what stands in quotes behind `=` is one word. The answer is false where quotes
-/// don't end. Linear in the line.
-pub fn clean_line(out: &mut Vec<u8>, line: &[u8]) -> Result<bool, AllocError>
-    ensures { IfOk result (λ whole. MatchBool whole
-        (with_line out.old.items line.now ≡ Some out.new.items)
-        (with_line out.old.items line.now ≡ None)) }
+/// of its word, and what stands in quotes behind `=` is one word. Linear in the line.
+pub fn clean_line(out: &mut Vec<u8>, line: &[u8]) -> Result<Cleaned, AllocError>
+    ensures { IfOk result (Comes (with_line out.old.items line.now) (has_comment line.now)
+        out.new.items) }
 {
     let mut rest = line;
     'blanks: while let [b, more @ ..] = rest {
@@ -179,19 +184,18 @@ pub fn clean_line(out: &mut Vec<u8>, line: &[u8]) -> Result<bool, AllocError>
         }
         rest = more;
     }
-    Ok(true)
+    Ok(Cleaned::Whole)
 }
 
 // A line that no blank begins.
-fn clean_shown(out: &mut Vec<u8>, line: &[u8]) -> Result<bool, AllocError>
+fn clean_shown(out: &mut Vec<u8>, line: &[u8]) -> Result<Cleaned, AllocError>
     requires { begins_blank line.now ≡ false }
-    ensures { IfOk result (λ whole. MatchBool whole
-        (with_line out.old.items line.now ≡ Some out.new.items)
-        (with_line out.old.items line.now ≡ None)) }
+    ensures { IfOk result (Comes (with_line out.old.items line.now) (has_comment line.now)
+        out.new.items) }
 {
     match line {
-        [] => Ok(true),
-        [b'*', ..] => Ok(true),
+        [] => Ok(Cleaned::Whole),
+        [b'*', ..] => Ok(Cleaned::Whole),
         [b'+', more @ ..] => {
             out.push(b'+')?;
             clean(out, more)

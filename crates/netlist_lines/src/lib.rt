@@ -3,4 +3,4 @@
 
 mod cleaning;
 
-pub use cleaning::clean_line;
+pub use cleaning::{Cleaned, clean_line};

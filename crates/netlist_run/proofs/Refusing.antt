@@ -1,5 +1,7 @@
 -- Causes of refusals.
-use Rattle.std.proofs.Common.{◌<◌, inl, inr, ℕ, true, List, length}
+use Rattle.std.proofs.Common.{◌≡◌, ◌<◌, ◌++◌, inl, inr, ℕ, true, List, Result, Ok, Err, IfErr, length, subst, sym}
+use Rattle.std.specs.Prelude.{codes, string_bytes}
+use Rattle.std.specs.Global.{Vec}
 use Rattle.lvs_outside.specs.Store.{Store, counted}
 use Rattle.spice_rows.specs.Sizes.{read_limit}
 use Rattle.spice_rows.specs.declared.fault.SpiceFault.{SpiceFault}
@@ -13,7 +15,10 @@ use Rattle.netlist_join.specs.declared.join.JoinFault.{JoinFault}
 use Rattle.netlist_join.specs.declared.join.JoinFault.TheVariants as joining
 use Rattle.netlist_join.specs.declared.join.Origin.{Origin}
 use Rattle.netlist_join.specs.Joining.{joined as joined_files}
-use Rattle.netlist_join.specs.Loaded.{SaysFailed}
+use Rattle.netlist_join.specs.Failing.{ShowsFaults}
+use Rattle.netlist_join.specs.JoinLaw.{AllThereLaw}
+use Rattle.netlist_join.specs.Loaded.{StartsWith, paths_of}
+use Rattle.netlist_join.specs.Named.{AreAsked}
 use Rattle.netlist_join.specs.Seen.{SaysFault as SaysJoinFault}
 use Rattle.netlist_turn.specs.Made.{Made}
 use Rattle.netlist_turn.specs.Turning.{turned}
@@ -23,8 +28,10 @@ use Rattle.netlist_turn.specs.declared.fault.TurnFault.TheVariants as turn
 use Rattle.netlist_turn.specs.declared.settings.Settings.{Settings}
 use Rattle.netlist_plan.specs.Defined.{defined, SaysFault as SaysPlanFault}
 use Rattle.netlist_plan.specs.Marks.{IsPlan}
-use Rattle.netlist_run.specs.Accepted.{NotRead, NotMade, Defines, NoTop, Turns, Reads, Memory, NotJoined, Joins, Makes, NoRoom, Stops, Loads, Lacks}
-use Rattle.netlist_run.specs.Lines.{SaysJoin, SaysLoad, SaysSpice, SaysTurn}
+use Rattle.netlist_run.specs.Accepted.{NotRead, NotMade, Defines, NoTop, Turns, Reads, Memory, NotJoined, Joins, Makes, NoRoom}
+use Rattle.netlist_run.specs.Ends.{ShowsStop}
+use Rattle.netlist_run.specs.declared.run.Output.{Output}
+use Rattle.netlist_run.specs.Lines.{Says, SaysJoin, SaysLoad, SaysSpice, SaysTurn}
 use Rattle.netlist_run.specs.Words.{Asked}
 use Rattle.netlist_run.specs.declared.status.Stop.{Stop}
 use Rattle.netlist_run.specs.declared.status.Stop.TheVariants as stop
@@ -48,6 +55,7 @@ not_defined files j a (turn.BadForm line) s h says = Defines (turn.BadForm line)
 not_defined files j a (turn.Shadowed line) s h says = Defines (turn.Shadowed line) h says
 not_defined files j a (turn.EarlyMore line) s h says = Defines (turn.EarlyMore line) h says
 not_defined files j a (turn.Twice line) s h says = Defines (turn.Twice line) h says
+not_defined files j a (turn.Resized line) s h says = Defines (turn.Resized line) h says
 
 pub not_turned : (files : List File) (j : Joined) (a : Asked) (settings : Settings) (e : TurnFault) (s : Stop) → IsPlan j.text.items a.top a.leaving settings true
     → SaysTurnFault e (turned settings j.text.items) → SaysTurn files j.origins.items e s → NotMade files j a s
@@ -57,10 +65,12 @@ not_turned files j a settings (turn.BadForm line) s plan h says = Turns settings
 not_turned files j a settings (turn.Shadowed line) s plan h says = Turns settings (turn.Shadowed line) plan h says
 not_turned files j a settings (turn.EarlyMore line) s plan h says = Turns settings (turn.EarlyMore line) plan h says
 not_turned files j a settings (turn.Twice line) s plan h says = Turns settings (turn.Twice line) plan h says
+not_turned files j a settings (turn.Resized line) s plan h says = Turns settings (turn.Resized line) plan h says
 
-pub not_joined : (files : List File) (a : Asked) (e : JoinFault) (s : Stop) → SaysJoinFault e (joined_files files (length a.inputs) a.has_title) → SaysJoin files e s → NotJoined files a s
-not_joined files a (joining.At why at) s h says = Joins (joining.At why at) h says
-not_joined files a joining.NoMemory s h says = NoRoom says
+pub not_joined : (files : List File) (a : Asked) (e : JoinFault) (s : Stop) → AllThereLaw → AreAsked a.inputs files → StartsWith (paths_of files) a.inputs
+    → SaysJoinFault e (joined_files files (length a.inputs) a.has_title) → SaysJoin files e s → NotJoined files a s
+not_joined files a (joining.At why at) s law all starts h says = Joins (joining.At why at) h (law a.inputs files a.has_title (joining.At why at) all starts h) says
+not_joined files a joining.NoMemory s law all starts h says = NoRoom says
 
 -- only a call that failed stops a run so
 
@@ -71,6 +81,7 @@ turn_inside files origins (turn.BadForm line) h = h
 turn_inside files origins (turn.Shadowed line) h = h
 turn_inside files origins (turn.EarlyMore line) h = h
 turn_inside files origins (turn.Twice line) h = h
+turn_inside files origins (turn.Resized line) h = h
 
 spice_inside : (files : List File) (origins : List Origin) (lines : List ℕ) (f : SpiceFault) → SaysSpice files origins lines f stop.Outside → ⊥
 spice_inside files origins lines spice.NoMemory h = absurd cc
@@ -95,19 +106,28 @@ made_inside files j a (Turns settings e h g says) = turn_inside files j.origins.
 made_inside files j a (Reads settings m h g r) = read_inside files j.origins.items m r
 made_inside files j a (Memory e) = absurd cc
 
-joined_inside : (files : List File) (a : Asked) → NotJoined files a stop.Outside → ⊥
-joined_inside files a (Joins (joining.At why at) h says) = says
-joined_inside files a (Joins joining.NoMemory h says) = absurd cc
+pub joined_inside : (files : List File) (a : Asked) → NotJoined files a stop.Outside → ⊥
+joined_inside files a (Joins (joining.At why at) h there says) = says
+joined_inside files a (Joins joining.NoMemory h there says) = absurd cc
 joined_inside files a (Makes j h g) = made_inside files j a g
 joined_inside files a (NoRoom e) = absurd cc
 
-load_outside : (old new : Store) (e : Failed) → SaysFailed old new e → SaysLoad e stop.Outside → (counted old).faults < (counted new).faults
-load_outside old new load.Outside h says = h
-load_outside old new (load.Absent path) h says = absurd says
-load_outside old new (load.TooLong path) h says = absurd says
-load_outside old new load.TooMany h says = absurd says
-load_outside old new load.NoMemory h says = absurd cc
+-- the store failed exactly where files weren't loaded for that
 
-pub stops_outside : (old new : Store) (a : Asked) → Stops old new a stop.Outside → (counted old).faults < (counted new).faults
-stops_outside old new a (Loads e h says) = load_outside old new e h says
-stops_outside old new a (Lacks files h g) = absurd (joined_inside files a g)
+said_quiet : (old new : Store) (line : List ℕ) (s : Stop) → (counted new).faults ≡ (counted old).faults → Says line s → ShowsStop {A = Output} old new (Err s)
+said_quiet old new line (stop.Refused text) quiet says = quiet
+said_quiet old new line stop.Outside quiet says = absurd says
+said_quiet old new line stop.NoMemory quiet says = quiet
+
+pub load_quiet : (old new : Store) (e : Failed) (s : Stop) → ShowsFaults {A = Vec File} old new (Err e) → SaysLoad e s → ShowsStop {A = Output} old new (Err s)
+load_quiet old new load.Outside s h says = subst (λ (x : Stop). ShowsStop {A = Output} old new (Err x)) (sym says) h
+load_quiet old new (load.Absent path) s h says = said_quiet old new (codes "refused absent " ++ (string_bytes path ++ codes "\n")) s h says
+load_quiet old new (load.TooLong path) s h says = said_quiet old new (codes "refused long " ++ (string_bytes path ++ codes "\n")) s h says
+load_quiet old new load.TooMany s h says = said_quiet old new (codes "refused more than 10000 files\n") s h says
+load_quiet old new load.NoMemory s h says = subst (λ (x : Stop). ShowsStop {A = Output} old new (Err x)) (sym says) h
+
+pub joined_quiet : (old new : Store) (files : List File) (a : Asked) (r : Result Output Stop) → (counted new).faults ≡ (counted old).faults → IfErr r (NotJoined files a) → ShowsStop old new r
+joined_quiet old new files a (Ok o) quiet h = quiet
+joined_quiet old new files a (Err (stop.Refused text)) quiet h = quiet
+joined_quiet old new files a (Err stop.Outside) quiet h = absurd (joined_inside files a h)
+joined_quiet old new files a (Err stop.NoMemory) quiet h = quiet

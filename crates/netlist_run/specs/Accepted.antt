@@ -1,11 +1,7 @@
--- What a run leaves: what the cards of the joined inputs make, where the reader of `lvs` takes it,
--- and all that is told of it; or no file changed, and a line that says why.
-use Rattle.std.specs.Prelude.{◌≡◌, ◌≢◌, ◌⊎◌, ◌<◌, ℕ, true, false, List, length, Ok, Err}
-use Rattle.std.specs.Prelude.{Option, Some, None, codes}
-use Rattle.lvs_outside.specs.Loops.{HoldsNow, IsFile}
-use Rattle.std.specs.Global.{Vec}
-use Rattle.lvs_outside.specs.Store.{Store, Told, SameFiles, appended, counted}
-use Rattle.lvs_outside.specs.Summary.{SinkState, counted_sink}
+-- What a run has to write: what the cards of the joined inputs make, where the reader of `lvs` takes
+-- it, and all that is told of it; or why there is nothing.
+use Rattle.std.specs.Prelude.{◌≡◌, ◌⊎◌, ℕ, true, false, List, length, Ok, Err}
+use Rattle.lvs_outside.specs.Store.{Store, Told}
 use Rattle.plain_netlist.specs.Netlist.{Netlist}
 use Rattle.spice_rows.specs.Sizes.{read_limit}
 use Rattle.spice_rows.specs.declared.fault.SpiceFault.{SpiceFault}
@@ -16,7 +12,10 @@ use Rattle.netlist_join.specs.declared.join.Joined.{Joined}
 use Rattle.netlist_join.specs.declared.join.JoinFault.{JoinFault}
 use Rattle.netlist_join.specs.declared.join.Origin.{Origin}
 use Rattle.netlist_join.specs.Joining.{joined as joined_files}
-use Rattle.netlist_join.specs.Loaded.{AreFiles, SaysFailed, StartsWith, paths_of}
+use Rattle.netlist_join.specs.Failing.{SaysFailed}
+use Rattle.netlist_join.specs.JoinLaw.{IsPresent}
+use Rattle.netlist_join.specs.Loaded.{AreFiles, StartsWith, paths_of}
+use Rattle.netlist_join.specs.Named.{AreAsked}
 use Rattle.netlist_join.specs.Seen.{seen as joined_seen}
 use Rattle.netlist_turn.specs.Made.{Made}
 use Rattle.netlist_turn.specs.Turning.{turned}
@@ -26,9 +25,7 @@ use Rattle.netlist_told.specs.Sums.{told_text}
 use Rattle.netlist_plan.specs.Defined.{defined}
 use Rattle.netlist_plan.specs.Marks.{IsPlan}
 use Rattle.netlist_run.specs.Lines.{Says, SaysJoin, SaysLoad, SaysSpice, SaysTurn, no_top_line}
-use Rattle.netlist_run.specs.Words.{Asked, is_same}
-use Rattle.netlist_run.specs.declared.status.Status.{Status}
-use Rattle.netlist_run.specs.declared.status.Status.TheVariants.{Good, Refused, Outside, NoMemory}
+use Rattle.netlist_run.specs.Words.{Asked}
 use Rattle.netlist_run.specs.declared.status.Stop.{Stop}
 use Rattle.netlist_run.specs.declared.status.Stop.TheVariants as stop
 
@@ -48,7 +45,8 @@ pub record IsOutput (files : List File) (joined : Joined) (a : Asked) (text line
   pub turned : turned settings joined.text.items ≡ Ok made
   pub text_is : text ≡ made.text
   pub lines_are : lines
-      ≡ told_text a.has_title files joined.origins.items made.told (length made.lines)
+      ≡ told_text a.has_title files joined.origins.items joined.comments made.told
+      (length made.lines)
   pub accepted : IsAccepted text
 
 -- a fault that the reader of `lvs` finds in what was made, and the run stops with its line
@@ -79,18 +77,21 @@ pub record IsJoined (files : List File) (a : Asked) (text lines : List ℕ) : Ty
   pub joins : joined_files files (length a.inputs) a.has_title ≡ Ok (joined_seen joined)
   pub output : IsOutput files joined a text lines
 
--- why they make nothing: the first line that can't be joined, or else why its cards make nothing
+-- why they make nothing: the first line that can't be joined, but for a file that isn't there, or
+-- else why its cards make nothing
 pub data NotJoined (files : List File) (a : Asked) (s : Stop) : Type 0 where
   Joins : (e : JoinFault) → joined_files files (length a.inputs) a.has_title ≡ Err e
-      → SaysJoin files e s → NotJoined files a s
+      → IsPresent e → SaysJoin files e s → NotJoined files a s
   Makes : (j : Joined) → joined_files files (length a.inputs) a.has_title ≡ Ok (joined_seen j)
       → NotMade files j a s → NotJoined files a s
   NoRoom : s ≡ stop.NoMemory → NotJoined files a s
 
--- the inputs come first, in their order, and each file's bytes are those that the store tells
+-- just the files to which the inputs come, the inputs first, in their order, and each file's bytes
+-- are those that the store tells
 pub record AreLoaded (file : List ℕ → Told) (a : Asked) (files : List File) : Type 0 where
   pub told : AreFiles file files
   pub inputs : StartsWith (paths_of files) a.inputs
+  pub asked : AreAsked a.inputs files
 
 pub record IsPrepared (file : List ℕ → Told) (a : Asked) (text lines : List ℕ) : Type 0 where
   pub files : List File
@@ -99,69 +100,6 @@ pub record IsPrepared (file : List ℕ → Told) (a : Asked) (text lines : List 
 
 -- why a run has nothing to write: a file that isn't loaded, or what the loaded ones lack
 pub data Stops (old new : Store) (a : Asked) (s : Stop) : Type 0 where
-  Loads : (e : Failed) → SaysFailed old new e → SaysLoad e s → Stops old new a s
+  Loads : (e : Failed) → SaysFailed a.inputs old new e → SaysLoad e s → Stops old new a s
   Lacks : (files : List File) → AreLoaded old.file a files → NotJoined files a s
       → Stops old new a s
-
--- what is asked for was written: the file of the named path holds the text now, where it is told,
--- and each other file stays; and the lines were sent
-pub record WritesOutput (o : Option Asked) (old new : Store) (before after : SinkState)
-    : Type 0 where
-  pub ask : Asked
-  pub path : List ℕ
-  pub text : List ℕ
-  pub lines : List ℕ
-  pub asks : o ≡ Some ask
-  pub out : ask.out ≡ Some path
-  pub apart : is_same ask path ≡ false
-  pub prepared : IsPrepared old.file ask text lines
-  pub written : (p : List ℕ) → ((p ≡ path) × IsFile text (new.file p))
-      ⊎ ((p ≢ path) × (new.file p ≡ old.file p))
-  pub sent : after.told ≡ appended before.told lines
-
--- why a run is refused, with this line: the words ask for nothing, an input stands twice or is the
--- output, or there is nothing to write
-pub data IsRefused (o : Option Asked) (old new : Store) (line : List ℕ) : Type 0 where
-  Words : o ≡ None → line ≡ codes "refused words\n" → IsRefused o old new line
-  Same : (a : Asked) (path : List ℕ) → o ≡ Some a → a.out ≡ Some path
-      → is_same a path ≡ true → line ≡ codes "refused same\n" → IsRefused o old new line
-  Stopped : (a : Asked) (text : Vec ℕ) → o ≡ Some a → Stops old new a (stop.Refused text)
-      → line ≡ text.items → IsRefused o old new line
-
--- no file has changed, and a line that says why was sent
-pub record Refuses (o : Option Asked) (old new : Store) (before after : SinkState) : Type 0 where
-  pub line : List ℕ
-  pub why : IsRefused o old new line
-  pub files : SameFiles old new
-  pub sent : after.told ≡ appended before.told line
-
--- a call on the store or on the sink failed, or took nothing of a piece that isn't empty
-abbrev pub OutsideFailed : Store → Store → SinkState → SinkState → Type 0
-OutsideFailed old new before after = ((counted old).faults < (counted new).faults)
-    ⊎ ((counted_sink before).faults < (counted_sink after).faults)
-
--- what a run leaves, by what its words ask for and its answer
-abbrev pub Leaves : Option Asked → Store → Store → SinkState → SinkState → Status → Type 0
-Leaves o old new before after Good = WritesOutput o old new before after
-Leaves o old new before after Refused = Refuses o old new before after
-Leaves o old new before after Outside = OutsideFailed old new before after
-Leaves o old new before after NoMemory = Unit {0}
-
--- a line was sent, and the answer is this one, or the sink failed
-abbrev pub Sends : List ℕ → SinkState → SinkState → Status → Status → Type 0
-Sends line before after status answer =
-    ((answer ≡ status) × (after.told ≡ appended before.told line))
-    ⊎ ((answer ≡ Outside) × ((counted_sink before).faults < (counted_sink after).faults))
-
--- the line of a refusal was sent
-abbrev pub SendsStop : Stop → SinkState → SinkState → Status → Type 0
-SendsStop (stop.Refused text) before after answer = Sends text.items before after Refused answer
-SendsStop stop.Outside before after answer = answer ≡ Outside
-SendsStop stop.NoMemory before after answer = answer ≡ NoMemory
-
--- the text was written and the lines were sent, or a call failed
-abbrev pub Delivers : List ℕ → List ℕ → List ℕ → Store → Store → SinkState → SinkState → Status
-    → Type 0
-Delivers path text lines old new before after answer =
-    (HoldsNow (counted old) (counted new) path text × Sends lines before after Good answer)
-    ⊎ ((answer ≡ Outside) × ((counted old).faults < (counted new).faults))

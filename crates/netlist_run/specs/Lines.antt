@@ -37,6 +37,7 @@ turn_line (turn.BadForm line) = line
 turn_line (turn.Shadowed line) = line
 turn_line (turn.EarlyMore line) = line
 turn_line (turn.Twice line) = line
+turn_line (turn.Resized line) = line
 turn_line turn.NoMemory = 0
 
 abbrev pub turn_text : TurnFault → List ℕ
@@ -45,6 +46,7 @@ turn_text (turn.BadForm line) = codes "the card has another form"
 turn_text (turn.Shadowed line) = codes "a circuit's parameter that .PARAM defines, too"
 turn_text (turn.EarlyMore line) = codes "a + with no card before it"
 turn_text (turn.Twice line) = codes "a second .PARAM of one name"
+turn_text (turn.Resized line) = codes "an option that changes sizes"
 turn_text turn.NoMemory = []
 
 -- the refusal of a card that can't be turned

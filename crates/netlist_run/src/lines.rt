@@ -87,6 +87,7 @@ fn turn_line(fault: &TurnFault) -> u64
         TurnFault::Shadowed(line) => *line,
         TurnFault::EarlyMore(line) => *line,
         TurnFault::Twice(line) => *line,
+        TurnFault::Resized(line) => *line,
         TurnFault::NoMemory => 0,
     }
 }
@@ -100,6 +101,7 @@ fn turn_text(fault: &TurnFault) -> &'static [u8]
         TurnFault::Shadowed(_) => b"a circuit's parameter that .PARAM defines, too",
         TurnFault::EarlyMore(_) => b"a + with no card before it",
         TurnFault::Twice(_) => b"a second .PARAM of one name",
+        TurnFault::Resized(_) => b"an option that changes sizes",
         TurnFault::NoMemory => b"",
     }
 }

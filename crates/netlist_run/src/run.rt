@@ -5,24 +5,27 @@ ghost use Rattle.std.specs.Prelude.{None, is_none, string_bytes};
 ghost use Rattle.std.specs.List.{list_any};
 ghost use Rattle.std.specs.Str.{bytes_eq};
 ghost use Rattle.std.specs.Option.{option_copied};
-ghost use Rattle.lvs_outside.specs.Store.{HasRoom, SameFiles, counted};
+ghost use Rattle.lvs_outside.specs.Store.{HasRoom};
 ghost use Rattle.lvs_outside.specs.Summary.{SinkHasRoom};
 ghost use Rattle.spice_rows.specs.Sizes.{read_limit};
 ghost use Rattle.spice_text.specs.Means.{SaysFirst};
 ghost use Rattle.netlist_turn.specs.Seen.{seen};
-ghost use Rattle.netlist_join.specs.Loaded.{has_twins};
+ghost use Rattle.netlist_join.specs.Failing.{OnlyReads};
+ghost use Rattle.netlist_join.specs.Loaded.{StartsWith, has_twins, paths_of};
+ghost use Rattle.netlist_join.specs.Named.{AreAsked};
 ghost use Rattle.netlist_plan.specs.Marks.{IsPlan};
 ghost use Rattle.netlist_told.specs.Sums.{told_text};
-ghost use Rattle.netlist_run.specs.Accepted.{IsAccepted, IsJoined, IsOutput, IsPrepared, Leaves};
-ghost use Rattle.netlist_run.specs.Accepted.{Delivers, NotJoined, NotMade, NotRead, Sends};
-ghost use Rattle.netlist_run.specs.Accepted.{SendsStop, Stops};
+ghost use Rattle.netlist_run.specs.Accepted.{IsAccepted, IsJoined, IsOutput, IsPrepared};
+ghost use Rattle.netlist_run.specs.Accepted.{NotJoined, NotMade, NotRead, Stops};
+ghost use Rattle.netlist_run.specs.Ends.{Delivers, Ends, Leaves, Sends, SendsStop, ShowsFaults};
+ghost use Rattle.netlist_run.specs.Ends.{ShowsStop};
 ghost use Rattle.netlist_run.specs.Words.{asked, asked_seen, is_same};
 
 use crate::lines::{join_stop, load_stop, no_top_stop, spice_stop, turn_stop};
 use crate::status::{Status, Stop};
 use crate::words::{Command, read_command};
 use lvs_outside::{Depot, Sink, write_all, write_file};
-use netlist_join::{File, Joined, Origin, join_files, load_files};
+use netlist_join::{File, Joined, Origin, join_files, joined_laws, load_files};
 use netlist_plan::plan_cards;
 use netlist_told::told_lines;
 use netlist_turn::{Settings, Turned, turn_cards};
@@ -50,17 +53,28 @@ fn try_text(alloc: Global, text: &[u8]) -> Result<(), SpiceFault>
 fn finished(
     alloc: Global,
     files: &[File],
-    origins: &[Origin],
+    joined: &Joined,
     has_title: bool,
     turned: Turned,
 ) -> Result<Output, AllocError>
     ensures text { IfOk result (λ o. o.text.items ≡ (seen turned.entry).text) }
-    ensures lines { IfOk result (λ o. o.lines.items ≡ told_text has_title files.now origins.now
-        (seen turned.entry).told (length (seen turned.entry).lines)) }
+    ensures lines { IfOk result (λ o. o.lines.items ≡ told_text has_title files.now
+        joined.now.origins.items joined.now.comments (seen turned.entry).told
+        (length (seen turned.entry).lines)) }
 {
     let told = turned.told.as_slice();
     let cards = turned.lines.as_slice();
-    let lines = told_lines(alloc, has_title, files, origins, told, cards.len())?;
+    let origins = joined.origins.as_slice();
+    let comments = joined.comments;
+    let lines = told_lines(
+        alloc,
+        has_title,
+        files,
+        origins,
+        comments,
+        told,
+        cards.len(),
+    )?;
     let Turned {
         text,
         lines: _,
@@ -75,13 +89,14 @@ fn finished(
 fn read_stop(
     alloc: Global,
     files: &[File],
-    origins: &[Origin],
+    joined: &Joined,
     turned: &Turned,
     fault: SpiceFault,
 ) -> Stop
     requires { SaysFirst read_limit (seen turned.now).text fault }
-    ensures { NotRead files.now origins.now (seen turned.now) result }
+    ensures { NotRead files.now joined.now.origins.items (seen turned.now) result }
 {
+    let origins = joined.origins.as_slice();
     spice_stop(alloc, files, origins, turned.lines.as_slice(), fault)
 }
 
@@ -89,22 +104,24 @@ fn read_stop(
 fn tried(
     alloc: Global,
     files: &[File],
-    origins: &[Origin],
+    joined: &Joined,
     has_title: bool,
     turned: Turned,
 ) -> Result<Output, Stop>
     ensures text { IfOk result (λ o. o.text.items ≡ (seen turned.entry).text) }
-    ensures lines { IfOk result (λ o. o.lines.items ≡ told_text has_title files.now origins.now
-        (seen turned.entry).told (length (seen turned.entry).lines)) }
+    ensures lines { IfOk result (λ o. o.lines.items ≡ told_text has_title files.now
+        joined.now.origins.items joined.now.comments (seen turned.entry).told
+        (length (seen turned.entry).lines)) }
     ensures accepted { IfOk result (λ o. IsAccepted (seen turned.entry).text) }
-    ensures refused { IfErr result (NotRead files.now origins.now (seen turned.entry)) }
+    ensures refused { IfErr result (NotRead files.now joined.now.origins.items
+        (seen turned.entry)) }
 {
     match try_text(alloc, turned.text.as_slice()) {
         Ok(()) => {
-            let output = finished(alloc, files, origins, has_title, turned)?;
+            let output = finished(alloc, files, joined, has_title, turned)?;
             Ok(output)
         }
-        Err(fault) => Err(read_stop(alloc, files, origins, &turned, fault)),
+        Err(fault) => Err(read_stop(alloc, files, joined, &turned, fault)),
     }
 }
 
@@ -125,7 +142,7 @@ fn turned_output(
 {
     let origins = joined.origins.as_slice();
     match turn_cards(alloc, settings, joined.text.as_slice()) {
-        Ok(turned) => tried(alloc, files, origins, command.has_title, turned),
+        Ok(turned) => tried(alloc, files, joined, command.has_title, turned),
         Err(fault) => Err(turn_stop(alloc, files, origins, fault)),
     }
 }
@@ -170,10 +187,13 @@ fn input_count(command: &Command) -> usize
 // What is to be written of the inputs and the files that they name.
 #[tactic(auto, using(crate::proofs::Leaving::makes_of))]
 fn joined_output(alloc: Global, files: &[File], command: &Command) -> Result<Output, Stop>
+    requires asked { AreAsked (asked_seen command.now).inputs files.now }
+    requires inputs { StartsWith (paths_of files.now) (asked_seen command.now).inputs }
     ensures output { IfOk result (λ o. IsJoined files.now (asked_seen command.now) o.text.items
         o.lines.items) }
     ensures refused { IfErr result (NotJoined files.now (asked_seen command.now)) }
 {
+    joined_laws();
     let count = input_count(command);
     match join_files(alloc, files, count, command.has_title) {
         Ok(joined) => made(alloc, files, &joined, command),
@@ -182,14 +202,13 @@ fn joined_output(alloc: Global, files: &[File], command: &Command) -> Result<Out
 }
 
 // Reads the files that a command names, and makes what is to be written.
-#[tactic(auto, using(crate::proofs::Leaving::lacks_of, crate::proofs::Leaving::loaded, crate::proofs::Leaving::prepared_of))]
+#[tactic(auto, using(crate::proofs::Leaving::loaded, crate::proofs::Leaving::prepared_of, crate::proofs::Refusing::joined_quiet, crate::proofs::Refusing::load_quiet))]
 fn prepare<D: Depot>(alloc: Global, command: &Command, depot: &mut D) -> Result<Output, Stop>
     requires room { HasRoom (D.state depot.old) }
     requires apart { has_twins (asked_seen command.now).inputs ≡ false }
     ensures room { OnOk result (HasRoom (D.state depot.new)) }
-    ensures files { SameFiles (D.state depot.old) (D.state depot.new) }
-    ensures faults { OnOk result ((counted (D.state depot.new)).faults
-        ≡ (counted (D.state depot.old)).faults) }
+    ensures reads { OnlyReads (D.state depot.old) (D.state depot.new) }
+    ensures faults { ShowsStop (D.state depot.old) (D.state depot.new) result }
     ensures made { IfOk result (λ o. IsPrepared (D.state depot.old).file (asked_seen command.now)
         o.text.items o.lines.items) }
     ensures refused { IfErr result (Stops (D.state depot.old) (D.state depot.new)
@@ -248,7 +267,7 @@ fn run_command<D: Depot, S: Sink>(
     requires sink { SinkHasRoom (S.state out.old) }
     requires path { (asked_seen command.now).out ≡ Some path.now }
     requires apart { is_same (asked_seen command.now) path.now ≡ false }
-    ensures { Leaves (Some (asked_seen command.now)) (D.state depot.old) (D.state depot.new)
+    ensures { Ends (Some (asked_seen command.now)) (D.state depot.old) (D.state depot.new)
         (S.state out.old) (S.state out.new) result }
 {
     match prepare(alloc, command, depot) {
@@ -278,7 +297,7 @@ fn run_asked<D: Depot, S: Sink>(
     requires depot { HasRoom (D.state depot.old) }
     requires sink { SinkHasRoom (S.state out.old) }
     requires path { is_none (asked_seen command.now).out ≡ false }
-    ensures { Leaves (Some (asked_seen command.now)) (D.state depot.old) (D.state depot.new)
+    ensures { Ends (Some (asked_seen command.now)) (D.state depot.old) (D.state depot.new)
         (S.state out.old) (S.state out.new) result }
 {
     let path = path_of(command);
@@ -288,11 +307,32 @@ fn run_asked<D: Depot, S: Sink>(
     run_command(alloc, command, path, depot, out)
 }
 
+// Reads the words, and runs what they ask for.
+#[tactic(auto, using(crate::proofs::Leaving::asked_ends, crate::proofs::Leaving::memory_ends, crate::proofs::Leaving::words_end))]
+fn run_words<D: Depot, S: Sink>(
+    alloc: Global,
+    words: &[String],
+    depot: &mut D,
+    out: &mut S,
+) -> Status
+    requires depot { HasRoom (D.state depot.old) }
+    requires sink { SinkHasRoom (S.state out.old) }
+    ensures { Ends (asked (map string_bytes words.now)) (D.state depot.old) (D.state depot.new)
+        (S.state out.old) (S.state out.new) result }
+{
+    match read_command(alloc, words) {
+        Ok(Some(command)) => run_asked(alloc, &command, depot, out),
+        Ok(None) => send(out, b"refused words\n", Status::Refused),
+        Err(_) => Status::NoMemory,
+    }
+}
+
 /// Runs the program on its words. After `Good` the file of the named path is what the cards of the
 /// inputs make, which the reader of `lvs` takes, and the lines that tell what was changed are sent.
-/// After `Refused` no file has changed, and the sent line says why: the words, a file that isn't
+/// After `Refused` no file was started, and the sent line says why: the words, a file that isn't
 /// there, the first line or card that can't be taken, or what `lvs` would refuse in what was made.
-/// After `Outside` a call failed. Linear in the bytes read and written.
+/// `Outside` is answered exactly where a call failed, and no line is sent behind a write that did.
+/// After `NoMemory` no file was started and nothing was sent. Linear in the bytes read and written.
 pub fn run_netlist<D: Depot, S: Sink>(
     alloc: Global,
     words: &[String],
@@ -301,14 +341,14 @@ pub fn run_netlist<D: Depot, S: Sink>(
 ) -> Status
     requires depot { HasRoom (D.state depot.old) }
     requires sink { SinkHasRoom (S.state out.old) }
-    ensures { Leaves (asked (map string_bytes words.now)) (D.state depot.old) (D.state depot.new)
-        (S.state out.old) (S.state out.new) result }
+    // What was written and sent, or why not, or where a call failed.
+    ensures outcome { Leaves (asked (map string_bytes words.now)) (D.state depot.old)
+        (D.state depot.new) (S.state out.old) (S.state out.new) result }
+    // Outside is answered exactly where a count of faults rose.
+    ensures faults { ShowsFaults (D.state depot.old) (D.state depot.new) (S.state out.old)
+        (S.state out.new) result }
 {
-    match read_command(alloc, words) {
-        Ok(Some(command)) => run_asked(alloc, &command, depot, out),
-        Ok(None) => send(out, b"refused words\n", Status::Refused),
-        Err(_) => Status::NoMemory,
-    }
+    run_words(alloc, words, depot, out)
 }
 
 // Whether a path is that of an input.

@@ -99,10 +99,12 @@ names_text s =
     tally_text (codes "parameter") s.parameters.names s.parameters.counts
     ++ tally_text (codes "value") s.values.names s.values.counts
 
-abbrev pub counts_text : Sums → List ℕ
-counts_text s =
-    count_text (codes "slashes") s.slashes ++ (count_text (codes "PARAMS:") s.params
-    ++ (count_text (codes "quotes") s.quotes ++ count_text (codes "backslashes") s.names))
+-- so many comments at the ends of lines, and the others
+abbrev pub counts_text : ℕ → Sums → List ℕ
+counts_text comments s =
+    count_text (codes "comments") comments ++ (count_text (codes "slashes") s.slashes
+    ++ (count_text (codes "PARAMS:") s.params ++ (count_text (codes "quotes") s.quotes
+    ++ count_text (codes "backslashes") s.names)))
 
 -- the first line of the first file, where it is a title
 abbrev pub title_text : Bool → List File → List ℕ
@@ -110,10 +112,10 @@ title_text true files =
     codes "left out " ++ (place_text files (record { file = 0; line = 1 }) ++ codes "title\n")
 title_text false files = []
 
--- all that is told of changes and of so many written cards
-abbrev pub told_text : Bool → List File → List Origin → List Told → ℕ → List ℕ
-told_text has_title files origins told cards =
+-- all that is told of changes, of so many comments and of so many written cards
+abbrev pub told_text : Bool → List File → List Origin → ℕ → List Told → ℕ → List ℕ
+told_text has_title files origins comments told cards =
     title_text has_title files ++ ((sums_from files origins no_sums told).cards
     ++ (names_text (sums_from files origins no_sums told)
-    ++ (counts_text (sums_from files origins no_sums told)
+    ++ (counts_text comments (sums_from files origins no_sums told)
     ++ (codes "written " ++ (decimal cards ++ codes " cards\n")))))

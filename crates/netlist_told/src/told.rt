@@ -29,9 +29,15 @@ fn push_title(
     out.extend_from_slice(b"title\n")
 }
 
-fn push_counts(alloc: Global, out: &mut Vec<u8>, sums: &Sums) -> Result<(), AllocError>
-    ensures { OnOk result (out.new.items ≡ out.old.items ++ counts_text (seen sums.now)) }
+fn push_counts(
+    alloc: Global,
+    out: &mut Vec<u8>,
+    comments: u64,
+    sums: &Sums,
+) -> Result<(), AllocError>
+    ensures { OnOk result (out.new.items ≡ out.old.items ++ counts_text comments (seen sums.now)) }
 {
+    push_count(alloc, out, b"comments", comments)?;
     push_count(alloc, out, b"slashes", sums.slashes)?;
     push_count(alloc, out, b"PARAMS:", sums.params)?;
     push_count(alloc, out, b"quotes", sums.quotes)?;
@@ -48,38 +54,45 @@ fn push_written(alloc: Global, out: &mut Vec<u8>, cards: usize) -> Result<(), Al
 }
 
 // The lines of counts, behind those of names.
-fn push_sums(alloc: Global, out: &mut Vec<u8>, sums: Sums, cards: usize) -> Result<(), AllocError>
+fn push_sums(
+    alloc: Global,
+    out: &mut Vec<u8>,
+    comments: u64,
+    sums: Sums,
+    cards: usize,
+) -> Result<(), AllocError>
     ensures { OnOk result (out.new.items ≡ out.old.items ++ (names_text (seen sums)
-        ++ (counts_text (seen sums) ++ (codes "written " ++ (decimal cards ++ codes " cards\n"))))) }
+        ++ (counts_text comments (seen sums) ++ (codes "written " ++ (decimal cards ++ codes " cards\n"))))) }
 {
     let mut counted = Vec::new(alloc);
-    push_counts(alloc, &mut counted, &sums)?;
+    push_counts(alloc, &mut counted, comments, &sums)?;
     push_tally(alloc, out, b"parameter", sums.parameters)?;
     push_tally(alloc, out, b"value", sums.values)?;
     out.extend_from_slice(counted.as_slice())?;
     push_written(alloc, out, cards)
 }
 
-/// All that is told of these changes and of so many written cards: `left out PATH line L title`,
+/// All that is told of these changes, of so many comments and of so many written cards: `left out PATH line L title`,
 /// where there is a title; `left out PATH line L WORD` for each card that is left out; then, where
 /// there are any, `parameter NAME N` for each name of parameters that are left out, `value NAME N`
-/// for each name whose value was put in, `slashes N`, `PARAMS: N`, `quotes N` and `backslashes N`;
-/// and `written N cards`. Linear in the changes.
+/// for each name whose value was put in, `comments N`, `slashes N`, `PARAMS: N`, `quotes N` and
+/// `backslashes N`; and `written N cards`. Linear in the changes.
 pub fn told_lines(
     alloc: Global,
     has_title: bool,
     files: &[File],
     origins: &[Origin],
+    comments: u64,
     told: &[Told],
     cards: usize,
 ) -> Result<Vec<u8>, AllocError>
     ensures { IfOk result (λ text. text.items
-        ≡ told_text has_title files.now origins.now (map told_seen told.now) cards) }
+        ≡ told_text has_title files.now origins.now comments (map told_seen told.now) cards) }
 {
     let sums = sums_of(alloc, files, origins, told)?;
     let mut out = Vec::new(alloc);
     push_title(alloc, &mut out, has_title, files)?;
     out.extend_from_slice(sums.cards.as_slice())?;
-    push_sums(alloc, &mut out, sums, cards)?;
+    push_sums(alloc, &mut out, comments, sums, cards)?;
     Ok(out)
 }

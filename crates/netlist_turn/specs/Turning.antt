@@ -4,7 +4,7 @@ use Rattle.std.specs.Prelude.{Result, Ok, Err, if◌then◌else◌}
 use Rattle.spice_cards.specs.Tokens.{Token, Word, Equals}
 use Rattle.spice_cards.specs.Parts.{Param, words_of, behind_words, params_of}
 use Rattle.spice_cards.specs.Cards.{Card, cards_of, early_more}
-use Rattle.netlist_turn.specs.Words.{row_of}
+use Rattle.netlist_turn.specs.Words.{changes_sizes, row_of}
 use Rattle.netlist_turn.specs.Made.{Made, telling, card_made, has_shadow, is_left}
 use Rattle.netlist_turn.specs.declared.rows.Row.{Row}
 use Rattle.netlist_turn.specs.declared.rows.Row.TheVariants.{Device, Call, Opening, Ending, Plain}
@@ -15,7 +15,7 @@ use Rattle.netlist_turn.specs.declared.made.Where.TheVariants.{Outside, Kept, Le
 use Rattle.netlist_turn.specs.declared.turn.Fate.{Fate}
 use Rattle.netlist_turn.specs.declared.turn.Fate.TheVariants.{Keeps, Drops, Refuses}
 use Rattle.netlist_turn.specs.declared.fault.TurnFault.{TurnFault}
-use Rattle.netlist_turn.specs.declared.fault.TurnFault.TheVariants.{UnknownCard, BadForm, Shadowed, EarlyMore}
+use Rattle.netlist_turn.specs.declared.fault.TurnFault.TheVariants.{UnknownCard, BadForm, Shadowed, EarlyMore, Resized}
 use Rattle.netlist_turn.specs.declared.settings.Settings.{Settings}
 
 -- a card stands in a circuit that is left out, or outside all where only circuits are kept
@@ -80,7 +80,9 @@ kept_card s row m line first words (Some ps) =
 abbrev pub by_fate : Settings → Row → Made → ℕ → List ℕ → List Token → Fate → Result Made TurnFault
 by_fate s row m line first behind Keeps =
     kept_card s row m line first (words_of behind) (params_of (behind_words behind))
-by_fate s row m line first behind Drops = Ok (telling m line CardKind first)
+by_fate s row m line first behind Drops =
+    if changes_sizes first behind then Err (Resized line)
+    else Ok (telling m line CardKind first)
 by_fate s row m line first behind Refuses = Err (UnknownCard line)
 
 -- what one card more makes, of this first word and the tokens behind it

@@ -6,8 +6,10 @@ use Rattle.std.specs.Prelude.{codes, if◌then◌else◌}
 use Rattle.std.specs.List.{list_any}
 use Rattle.std.specs.Str.{bytes_eq}
 use Rattle.netlist_lines.specs.Cleaning.{is_quote}
+use Rattle.spice_cards.specs.Tokens.{Token, Word, Equals}
 use Rattle.spice_rows.specs.Names.{is_text}
-use Rattle.spice_rows.specs.Params.{Transistor, is_device_key}
+use Rattle.plain_netlist.specs.declared.kinds.DeviceKind.TheVariants.{Mos4}
+use Rattle.spice_rows.specs.Params.{is_device_key}
 use Rattle.spice_rows.specs.Rows.{begin}
 use Rattle.netlist_turn.specs.declared.rows.Row.{Row}
 use Rattle.netlist_turn.specs.declared.rows.Row.TheVariants.{Device, Call, Opening, Ending, Plain}
@@ -19,12 +21,31 @@ use Rattle.netlist_turn.specs.declared.made.Kind.TheVariants.{Slash, Params}
 abbrev pub has_escape : List ℕ → Bool
 has_escape word = list_any (λ b. b == 0x5C) word
 
+-- a card of options
+abbrev pub is_option : List ℕ → Bool
+is_option w = is_text (codes ".OPTION") w || is_text (codes ".OPTIONS") w
+
+-- an option by which the sizes of devices are others than those that stand on their cards
+abbrev pub is_size_option : List ℕ → Bool
+is_size_option w =
+    is_text (codes "SCALE") w || is_text (codes "SCALM") w || is_text (codes "DEFL") w
+    || is_text (codes "DEFW") w || is_text (codes "DEFAD") w || is_text (codes "DEFAS") w
+
+abbrev pub has_size_option : List Token → Bool
+has_size_option [] = false
+has_size_option (Equals ∷ ts) = has_size_option ts
+has_size_option (Word w ∷ ts) = is_size_option w || has_size_option ts
+
+-- a card sets such an option
+abbrev pub changes_sizes : List ℕ → List Token → Bool
+changes_sizes first behind = is_option first && has_size_option behind
+
 -- a first word of cards that say nothing of the netlist, or that were done with before
 abbrev pub is_passed_word : List ℕ → Bool
 is_passed_word w =
     is_text (codes ".PARAM") w || is_text (codes ".INCLUDE") w || is_text (codes ".INC") w
     || is_text (codes ".LIB") w || is_text (codes ".ENDL") w || is_text (codes ".MODEL") w
-    || is_text (codes ".OPTION") w || is_text (codes ".OPTIONS") w || is_text (codes ".TEMP") w
+    || is_option w || is_text (codes ".TEMP") w
     || is_text (codes ".END") w
 
 -- M, X, C and R at the beginning, or a whole word
@@ -66,7 +87,7 @@ left_out row w behind = None
 
 -- a parameter that says something, or that the reader passes over
 abbrev pub is_kept_key : Row → List ℕ → Bool
-is_kept_key Device key = is_text (codes "M") key || is_device_key Transistor key
+is_kept_key Device key = is_text (codes "M") key || is_device_key Mos4 key
 is_kept_key Call key = is_text (codes "M") key
 is_kept_key Opening key = false
 is_kept_key row key = true

@@ -19,6 +19,8 @@ pub enum TurnFault {
     EarlyMore(u64),
     #[error("line {0}: a second .PARAM of one name")]
     Twice(u64),
+    #[error("line {0}: an option that changes sizes")]
+    Resized(u64),
     #[error("no memory")]
     NoMemory,
 }

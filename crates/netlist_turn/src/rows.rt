@@ -1,16 +1,20 @@
 //! Which kind of card a first word begins, and which of its words and parameters say something.
 
 ghost use Rattle.std.specs.Prelude.{◌≡◌};
-ghost use Rattle.spice_cards.specs.Seen.{words_seen};
-ghost use Rattle.spice_rows.specs.Params.{Transistor, is_device_key};
+ghost use Rattle.spice_cards.specs.Seen.{tokens_seen, words_seen};
+ghost use Rattle.plain_netlist.specs.declared.kinds.DeviceKind.TheVariants.{Mos4};
+ghost use Rattle.spice_rows.specs.Params.{is_device_key};
 ghost use Rattle.spice_rows.specs.Rows.{begin};
 ghost use Rattle.std.specs.Prelude.{codes};
 ghost use Rattle.spice_rows.specs.Names.{is_text};
 ghost use Rattle.netlist_turn.specs.Words.{is_circuit_end, is_kept_key, is_none, is_passed_word};
 ghost use Rattle.netlist_turn.specs.Words.{left_out, row_of};
+ghost use Rattle.netlist_turn.specs.Words.{changes_sizes, has_size_option, is_option};
+ghost use Rattle.netlist_turn.specs.Words.{is_size_option};
 
 use crate::made::Kind;
 use crate::words::{folded_byte, is_params, is_text};
+use spice_cards::Token;
 
 /// A kind of card.
 #[derive(Clone, Copy)]
@@ -37,6 +41,45 @@ pub fn is_param_word(word: &[u8]) -> bool
     is_text(word, b".PARAM")
 }
 
+fn is_option(word: &[u8]) -> bool
+    ensures { result ≡ is_option word.now }
+{
+    is_text(word, b".OPTION") || is_text(word, b".OPTIONS")
+}
+
+fn is_size_option(word: &[u8]) -> bool
+    ensures { result ≡ is_size_option word.now }
+{
+    is_text(word, b"SCALE")
+        || is_text(word, b"SCALM")
+        || is_text(word, b"DEFL")
+        || is_text(word, b"DEFW")
+        || is_text(word, b"DEFAD")
+        || is_text(word, b"DEFAS")
+}
+
+fn has_size_option(tokens: &[Token]) -> bool
+    ensures { result ≡ has_size_option (tokens_seen tokens.now) }
+{
+    let mut rest = tokens;
+    'tokens: while let [token, more @ ..] = rest {
+        if let Token::Word(word) = token {
+            if is_size_option(word) {
+                return true;
+            }
+        }
+        rest = more;
+    }
+    false
+}
+
+/// Whether a card sets an option by which sizes are others than those that stand on cards.
+pub fn changes_sizes(first: &[u8], behind: &[Token]) -> bool
+    ensures { result ≡ changes_sizes first.now (tokens_seen behind.now) }
+{
+    is_option(first) && has_size_option(behind)
+}
+
 fn is_passed_word(word: &[u8]) -> bool
     ensures { result ≡ is_passed_word word.now }
 {
@@ -46,8 +89,7 @@ fn is_passed_word(word: &[u8]) -> bool
         || is_text(word, b".LIB")
         || is_text(word, b".ENDL")
         || is_text(word, b".MODEL")
-        || is_text(word, b".OPTION")
-        || is_text(word, b".OPTIONS")
+        || is_option(word)
         || is_text(word, b".TEMP")
         || is_text(word, b".END")
 }
@@ -124,7 +166,7 @@ pub fn left_out(row: Row, word: &[u8], behind: &[&[u8]]) -> Option<Kind>
 }
 
 fn is_device_key(key: &[u8]) -> bool
-    ensures { result ≡ is_device_key Transistor key.now }
+    ensures { result ≡ is_device_key Mos4 key.now }
 {
     is_text(key, b"L")
         || is_text(key, b"W")

@@ -11,7 +11,7 @@ ghost use Rattle.netlist_turn.specs.Turning.{opened, turned, turning, word_taken
 
 use crate::fault::TurnFault;
 use crate::made::{Kind, Turned, Where};
-use crate::rows::{Row, row_of};
+use crate::rows::{Row, changes_sizes, row_of};
 use crate::settings::{Settings, has_shadow, is_left};
 use spice_cards::{CardReader, Token, read_params, read_words};
 use std::alloc::{AllocError, Global};
@@ -112,6 +112,9 @@ fn take_by_fate<'a>(
     match fate {
         Fate::Refuses => Err(TurnFault::UnknownCard(line)),
         Fate::Drops => {
+            if changes_sizes(first, behind) {
+                return Err(TurnFault::Resized(line));
+            }
             made.tell(line, Kind::Card, first)?;
             Ok(())
         }

@@ -4,7 +4,7 @@ use Rattle.std.proofs.Math.Path.{fun_ext}
 use Rattle.std.proofs.lemmas.Bool.Decides.{Decides-ltb}
 use Rattle.std.proofs.lemmas.Fmt.{decimal_digit}
 use Rattle.std.proofs.lemmas.Option.{none-some, same_Some}
-use Rattle.plain_netlist.specs.Netlist.{Source, Drain, on, Circuit, Netlist, IsCircuit, HasNet}
+use Rattle.plain_netlist.specs.Netlist.{Circuit, Netlist, IsCircuit, HasNet}
 use Rattle.plain_netlist.specs.Normal.{appearances, IsNormalCircuit}
 use Rattle.plain_netlist.specs.Sound.{IsGood, HasDevices}
 use Rattle.plain_netlist.proofs.Numbered.{numbered}
@@ -80,7 +80,7 @@ held_by f w height good c x is two on n h = inl (on n ((Decides-ltb n 2).0 h))
 held_back : (f : Netlist) (w : Alignment) (height : ℕ → ℕ) → IsGood f height → (c : ℕ) (x : Circuit) → IsCircuit f c x → length x.nets ≡ 2 → (n : ℕ) → OnDevice f c n ⊎ OnHeldPin f w c n → ltb n 2 ≡ true
 held_back f w height good c x is two n h =
     let has : HasNet f c n = elim h [
-      | inl (j, row, pole, device, net) ↦ subst (λ (m : ℕ). HasNet f c m) net (good.within.devices c j row pole device)
+      | inl (j, row, device, on) ↦ good.within.devices c j n row device on
       | inr (k, row, p, inner, call, kept, net, pin, held) ↦ good.within.calls c k p n row call net
     ] in
     let low : n < length x.nets = subst (λ (y : Circuit). n < length y.nets) (one_circuit f c has.0 x has.1 is) has.2 in
@@ -103,9 +103,9 @@ on_two P p q (suc (suc n)) h = absurd (omega arith)
 
 on_devices : (t : Bool) (c : ℕ) → is_kept c ≡ true → (n : ℕ) → n < 2 → OnDevice (flat t) c n
 on_devices true = kept_at (λ c. (n : ℕ) → n < 2 → OnDevice (flat true) c n)
-    (on_two (OnDevice (flat true) 1) (0, _, Source, (_, refl, refl), refl) (0, _, Drain, (_, refl, refl), refl)) (on_two (OnDevice (flat true) 3) (0, _, Source, (_, refl, refl), refl) (0, _, Drain, (_, refl, refl), refl))
+    (on_two (OnDevice (flat true) 1) (0, _, (_, refl, refl), inr (inr (inl refl))) (0, _, (_, refl, refl), inl refl)) (on_two (OnDevice (flat true) 3) (0, _, (_, refl, refl), inr (inr (inl refl))) (0, _, (_, refl, refl), inl refl))
 on_devices false = kept_at (λ c. (n : ℕ) → n < 2 → OnDevice (flat false) c n)
-    (on_two (OnDevice (flat false) 1) (0, _, Source, (_, refl, refl), refl) (0, _, Drain, (_, refl, refl), refl)) (on_two (OnDevice (flat false) 3) (0, _, Source, (_, refl, refl), refl) (0, _, Drain, (_, refl, refl), refl))
+    (on_two (OnDevice (flat false) 1) (0, _, (_, refl, refl), inr (inr (inl refl))) (0, _, (_, refl, refl), inl refl)) (on_two (OnDevice (flat false) 3) (0, _, (_, refl, refl), inr (inr (inl refl))) (0, _, (_, refl, refl), inl refl))
 
 cut_down : (t : Bool) → AreCut (flat t) left layout_alignment
 cut_down t = record {
@@ -200,7 +200,7 @@ schematic_two = part_at (λ c. length (given_of schematic c).nets ≡ 2) refl re
 
 schematic_on : (c : ℕ) → part_kept c ≡ true → (n : ℕ) → n < 2 → OnDevice schematic c n
 schematic_on = part_at (λ c. (n : ℕ) → n < 2 → OnDevice schematic c n)
-    (on_two (OnDevice schematic 0) (0, _, Drain, (_, refl, refl), refl) (0, _, Source, (_, refl, refl), refl)) (on_two (OnDevice schematic 1) (0, _, Source, (_, refl, refl), refl) (0, _, Drain, (_, refl, refl), refl))
+    (on_two (OnDevice schematic 0) (0, _, (_, refl, refl), inl refl) (0, _, (_, refl, refl), inr (inr (inl refl)))) (on_two (OnDevice schematic 1) (0, _, (_, refl, refl), inr (inr (inl refl))) (0, _, (_, refl, refl), inl refl))
 
 schematic_cut : AreCut schematic schematic schematic_alignment
 schematic_cut = record {

@@ -1,13 +1,13 @@
 -- All transistors of the layout have one width, so none corresponds to a wider one.
 use Rattle.std.proofs.Common.{◌≡◌, ℕ, zero, suc, List, [], ◌∷◌, Some, slice_get, refl, ap, subst, arith}
 use Rattle.std.proofs.lemmas.Option.{none-some, same_Some}
-use Rattle.plain_netlist.specs.Flats.{Row}
-use Rattle.plain_netlist.specs.Netlist.{DeviceRow, HasDevice, slot}
+use Rattle.plain_netlist.specs.Devices.{Row}
+use Rattle.plain_netlist.specs.Netlist.{DeviceRow, HasDevice, Slot, slot}
 use Rattle.pair_samples.specs.Chain.{layout, wide, whole, WidthChainLaw}
 use Rattle.pair_samples.proofs.Sound.{layout_at}
 
 abbrev One : DeviceRow → Type 0
-One row = row.width ≡ 1000000000
+One row = row.sizes ≡ 100000000 ∷ 1000000000 ∷ []
 
 no_row : (i : ℕ) (row : DeviceRow) → slice_get [] i ≡ Some row → One row
 no_row i row h = absurd (none-some row h)
@@ -25,7 +25,8 @@ no_width device net h =
     let there : HasDevice wide 1 (0 ∷ []) 0 _ = (_, (whole, refl, refl), (_, refl, refl)) in
     let b = h.back (slot (0 ∷ []) 0) _ (_, there, refl) in
     let row = b.2 in
-    let width : b.1.width ≡ row.0.width = ap (λ (r : Row _). r.width) row.2 in
-    let same : b.1.width ≡ 2000000000 = b.4.width in
-    let one = widths b.0.path 3 b.0.net row.0 row.1 in
+    let sizes : b.1.sizes ≡ row.0.sizes = ap (λ (r : Row Slot). r.sizes) row.2 in
+    let same : b.1.sizes ≡ 100000000 ∷ 2000000000 ∷ [] = b.4.sizes in
+    let one : row.0.sizes ≡ 100000000 ∷ 1000000000 ∷ [] = widths b.0.path 3 b.0.net row.0 row.1 in
+    let width : ◌≡◌ {A = ℕ} 1000000000 2000000000 = cc in
     absurd (omega arith)

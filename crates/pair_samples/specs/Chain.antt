@@ -1,6 +1,8 @@
 -- A layout of four circuits and a schematic of two: one circuit is flattened, one dropped, and two
 -- are compared.
 use Rattle.std.specs.Prelude.{ℕ, zero, suc, not, Bool, true, false, ltb, List, [], ◌∷◌, ◌++◌}
+use Rattle.plain_netlist.specs.declared.kinds.DeviceKind.TheVariants.{Mos4}
+use Rattle.plain_netlist.specs.Devices.{Both}
 use Rattle.plain_netlist.specs.FlatLaws.{ExpandAlike}
 use Rattle.plain_netlist.specs.Flats.{Corresponds, expanded}
 use Rattle.plain_netlist.specs.Netlist.{DeviceRow, Circuit, Netlist, Slot}
@@ -16,17 +18,19 @@ use Rattle.composed_laws.specs.Answered.{AreAnswers, AreMatches}
 use Rattle.latch_laws.specs.Latch.{untold}
 use Rattle.composed_laws.specs.Matched.{AreDevicesMatched, AreNetsMatched}
 
--- a transistor of 0.1 by 1 micrometres, with its drain, gate, source and bulk
-abbrev pub transistor : ℕ → ℕ → ℕ → ℕ → DeviceRow
-transistor drain gate source bulk = record {
+-- a transistor of 0.1 micrometres' length, with its drain, gate, source and bulk
+abbrev pub transistor_of : ℕ → ℕ → ℕ → ℕ → ℕ → DeviceRow
+transistor_of width drain gate source bulk = record {
+  kind = Mos4;
   class = 78 ∷ [];
-  length = 100000000;
-  width = 1000000000;
-  source = source;
-  gate = gate;
-  drain = drain;
-  bulk = bulk;
+  sizes = 100000000 ∷ width ∷ [];
+  ends = Both source drain;
+  others = gate ∷ bulk ∷ [];
 }
+
+-- one of 1 micrometre's width
+abbrev pub transistor : ℕ → ℕ → ℕ → ℕ → DeviceRow
+transistor drain gate source bulk = transistor_of 1000000000 drain gate source bulk
 
 -- the names A and B
 abbrev pub a : List ℕ
@@ -173,8 +177,8 @@ IsChainPair =
 abbrev pub MatchedChainLaw : Type 0
 MatchedChainLaw = IsSoundNetlist layout × IsSoundNetlist schematic
     × IsNormalNetlist layout × IsNormalNetlist schematic × IsGood layout (λ k. k)
-    × ((p : IsChainPair) × AreAnswers left schematic untold answers × AreMatches left answers pairings
-    × Corresponds (expanded layout 3) (expanded schematic 1)
+    × ((p : IsChainPair) × AreAnswers left schematic untold answers
+    × AreMatches left answers pairings × Corresponds (expanded layout 3) (expanded schematic 1)
     (AreDevicesMatched _ _ _ _ _ _ p.left_aligned p.right_aligned pairings 3 1)
     (AreNetsMatched _ _ _ _ _ _ p.left_aligned p.right_aligned pairings 3 1))
 
@@ -204,15 +208,7 @@ wide = record {
     name = part.name;
     nets = part.nets;
     pins = part.pins;
-    devices = record {
-      class = 78 ∷ [];
-      length = 100000000;
-      width = 2000000000;
-      source = 1;
-      gate = 0;
-      drain = 0;
-      bulk = 1;
-    } ∷ [];
+    devices = transistor_of 2000000000 0 0 1 1 ∷ [];
     calls = [];
   } ∷ whole ∷ [];
 }

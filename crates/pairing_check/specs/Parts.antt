@@ -1,5 +1,7 @@
 -- The parts of a correspondence, one for each loop of the check.
-use Rattle.std.specs.Prelude.{◌≡◌, ◌↔◌, ◌<◌, ℕ, Bool, List, Option, Some, length, slice_get, slice_index}
+use Rattle.std.specs.Prelude.{◌≡◌, ◌⊎◌, ◌↔◌, ◌<◌, ℕ, Bool, List, Option, Some, length, slice_get}
+use Rattle.std.specs.Prelude.{slice_index}
+use Rattle.plain_netlist.specs.Devices.{Ends, AreEndsJoined, AreJoined, exchanged}
 use Rattle.plain_netlist.specs.Netlist.{DeviceRow, CallRow, Circuit}
 use Rattle.plain_netlist.specs.Lists.{IsListed}
 use Rattle.match_laws.specs.Circuits.{IsOneToOne, IsDeviceImage, IsCallImage, pin_name}
@@ -29,6 +31,22 @@ ArePinsKept left right nets =
 abbrev pub AreNamesKept : Bool → Circuit → Circuit → List ℕ → Type 0
 AreNamesKept told left right nets = (n : ℕ) → n < length nets
     → pin_name told left n ≡ pin_name told right (slice_index nets n)
+
+-- devices of one kind, class and sizes
+pub record AreOneDevice (d e : DeviceRow) : Type 0 where
+  pub kind : d.kind ≡ e.kind
+  pub class : d.class ≡ e.class
+  pub sizes : d.sizes ≡ e.sizes
+
+-- ends go to these ends, in either order
+abbrev pub AreEndsKept : List ℕ → Ends ℕ → Ends ℕ → Type 0
+AreEndsKept nets d e = AreEndsJoined (λ n m. slice_index nets n ≡ m) d e
+    ⊎ AreEndsJoined (λ n m. slice_index nets n ≡ m) d (exchanged e)
+
+-- so do the terminals, each of the others to that of its place
+pub record AreTerminalsKept (nets : List ℕ) (d e : DeviceRow) : Type 0 where
+  pub ends : AreEndsKept nets d.ends e.ends
+  pub others : AreJoined (λ n m. slice_index nets n ≡ m) d.others e.others
 
 -- each device goes to its image
 abbrev pub AreDeviceImages : Circuit → Circuit → List ℕ → List ℕ → Type 0

@@ -69,7 +69,7 @@ pub fn check_pairing(
     calls_kept(left, right, children, &pairing.nets, &pairing.calls)
 }
 
-// Whether the three lists are one-to-one maps onto all nets, transistors and calls.
+// Whether the three lists are one-to-one maps onto all nets, devices and calls.
 fn maps_onto(left: &Circuit, right: &Circuit, pairing: &Pairing, marks: &mut Marks) -> bool
     requires { AreMarksFor marks.old right.now }
     ensures exact { Decides result (AreMaps left.now right.now pairing.now) }

@@ -9,14 +9,15 @@ use Rattle.std.specs.List.{list_any}
 use Rattle.std.proofs.lemmas.List.{map-append}
 use Rattle.std.proofs.lemmas.Option.{none-some, same_Some}
 use Rattle.plain_netlist.specs.Lists.{IsListed}
-use Rattle.plain_netlist.specs.Netlist.{Pole, Source, Gate, Drain, Bulk, on, DeviceRow, CallRow, Circuit, Netlist, IsCircuit, IsCall, HasNet}
-use Rattle.plain_netlist.specs.Normal.{terminal_nets}
+use Rattle.plain_netlist.specs.Netlist.{DeviceRow, CallRow, Circuit, Netlist, IsCircuit, IsCall, HasNet}
+use Rattle.plain_netlist.specs.Devices.{terminal_nets}
 use Rattle.plain_netlist.specs.Sound.{IsGood}
 use Rattle.plain_netlist.proofs.Members.{listed, position, in_left, in_right, in_all}
 use Rattle.align_laws.specs.Cut.{Alignment, held_pin, held_pins, cut, AreCut}
-use Rattle.align_laws.specs.Flat.{row_through, call_through}
+use Rattle.align_laws.specs.Flat.{call_through}
+use Rattle.plain_netlist.specs.Devices.{row_over}
 use Rattle.align_laws.specs.Lists.{DeviceAt, CallAt, over, indexed, pieces, joined_place, net_at_pin, given_of}
-use Rattle.align_laws.proofs.Appear.{terminal_at, old_nets, kept_calls, appear, all_held, held_there}
+use Rattle.align_laws.proofs.Appear.{old_nets, kept_calls, appear, all_held, held_there}
 use Rattle.align_laws.proofs.CutList.{given_is}
 use Rattle.align_laws.proofs.Pieces.{append_right, piece_at, place_pin}
 use Rattle.align_laws.proofs.SameViews.{keep_at}
@@ -25,6 +26,8 @@ use Rattle.part_origins.specs.Inside.{PlainSpot}
 use Rattle.part_origins.specs.Kept.{set_all}
 use Rattle.part_origins.specs.Nets.{net_at, terminals_at, pins_or, pins_under, call_nets_at, spot_terminals, spot_calls, named_nets}
 use Rattle.part_origins.proofs.Numbered.{among, has_listed, past_end, long_set, long_none, set_in_none}
+use Rattle.net_align.proofs.Seeing.{map_on}
+use Rattle.plain_netlist.proofs.Rows.{terminal_nets_over}
 use Rattle.part_origins.proofs.Parted.{Together}
 use Rattle.part_origins.proofs.Spots.{Stood, device_at, device_list, call_at, call_list}
 
@@ -64,12 +67,10 @@ net_low g s t n is has =
     let c = is.count in omega arith
 
 module _ (g : Netlist) (height : ℕ → ℕ) (good : IsGood g height) where
-  one_device : (s : PlainSpot) (t : Stood) (d : DeviceRow) → ((pole : Pole) → net_at s.nets (on pole d) ≡ t.net (on pole d)) → terminals_at s.nets d ≡ terminal_nets (row_through t.net d)
-  one_device s t d h =
-      let p = h Drain in let q = h Gate in let r = h Source in let u = h Bulk in
-      ap₂ (λ (x y : ℕ). x ∷ y ∷ net_at s.nets d.source ∷ net_at s.nets d.bulk ∷ []) p q ∙ ap₂ (λ (x y : ℕ). t.net d.drain ∷ t.net d.gate ∷ x ∷ y ∷ []) r u
+  one_device : (s : PlainSpot) (t : Stood) (d : DeviceRow) → ((n : ℕ) → IsListed n (terminal_nets d) → net_at s.nets n ≡ t.net n) → terminals_at s.nets d ≡ terminal_nets (row_over t.net d)
+  one_device s t d h = map_on (net_at s.nets) t.net (terminal_nets d) h ∙ sym (terminal_nets_over t.net d)
 
-  spot_devices : (ds : List DeviceRow) (s : PlainSpot) (t : Stood) (p : ℕ → ℕ) → ((j : ℕ) (d : DeviceRow) → slice_get ds j ≡ Some d → (pole : Pole) → net_at s.nets (on pole d) ≡ t.net (on pole d))
+  spot_devices : (ds : List DeviceRow) (s : PlainSpot) (t : Stood) (p : ℕ → ℕ) → ((j : ℕ) (d : DeviceRow) → slice_get ds j ≡ Some d → (n : ℕ) → IsListed n (terminal_nets d) → net_at s.nets n ≡ t.net n)
       → flat_map (terminals_at s.nets) ds ≡ flat_map terminal_nets (map row_at (indexed (λ m row. device_at t (p m) row) ds))
   spot_devices [] s t p h = refl
   spot_devices (d ∷ ds) s t p h = ap₂ (λ (x y : List ℕ). x ++ y) (one_device s t d (h 0 d refl)) (spot_devices ds s t (λ m. p (suc m)) (λ j e at. h (suc j) e at))
@@ -82,7 +83,7 @@ module _ (g : Netlist) (height : ℕ → ℕ) (good : IsGood g height) where
       let is = tied.0 in
       ap₂ (λ (p q : List ℕ). p ++ q)
       (ap (λ (c : ℕ). flat_map (terminals_at s.nets) (given_of g c).devices) is.circuit
-      ∙ spot_devices (given_of g t.circuit).devices s t (λ m. m) (λ j d at pole. is.nets (on pole d) (net_low g s t (on pole d) is (good.within.devices t.circuit j d pole (given_of g t.circuit, is.there, at)))))
+      ∙ spot_devices (given_of g t.circuit).devices s t (λ m. m) (λ j d at n l. is.nets n (net_low g s t n is (good.within.devices t.circuit j n d (given_of g t.circuit, is.there, at) l))))
       (terminals_are ss ts tied.1)
       ∙ (sym (flat_map-append terminal_nets (map row_at (device_list g t)) (map row_at (flat_map (device_list g) ts)))
       ∙ ap (flat_map terminal_nets) (sym (map-append row_at (device_list g t) (flat_map (device_list g) ts))))
@@ -165,11 +166,10 @@ module _ (f o : Netlist) (w : Alignment) (are : AreCut f o w) (height : ℕ → 
 
   held_listed : (n : ℕ) → w.held c n ≡ true → IsListed n named_old
   held_listed n h = elim ((are.held c n kept).0 h) [
-    | inl (j, row, pole, dev, net) ↦
+    | inl (j, row, dev, on) ↦
         let at : slice_get (given_of f c).devices j ≡ Some row = subst (λ (z : Circuit). slice_get z.devices j ≡ Some row) (sym (given_is f c dev.0 dev.1)) dev.2 in
-        let t = terminal_at row pole in
         in_left (flat_map terminal_nets (given_of f c).devices) (flat_map (old_nets f w) (kept_calls f w c)) n
-        (in_all terminal_nets (given_of f c).devices row n (listed (given_of f c).devices j row at) (subst (λ (m : ℕ). IsListed m (terminal_nets row)) net (listed (terminal_nets row) t.0 (on pole row) t.1)))
+        (in_all terminal_nets (given_of f c).devices row n (listed (given_of f c).devices j row at) on)
     | inr (k, row, p, inner, call, kept', net, pin, held) ↦
         let e = keep_at w.kept (given_of f c).calls k row (call_in k row call) kept' in
         let num : inner ≡ p = good.pins row.circuit p inner pin in

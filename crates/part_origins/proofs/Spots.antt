@@ -10,7 +10,9 @@ use Rattle.plain_netlist.specs.Lists.{IsListed}
 use Rattle.plain_netlist.specs.Netlist.{DeviceRow, CallRow, Circuit, Netlist, IsCircuit, IsCall, Slot, slot}
 use Rattle.plain_netlist.specs.Sound.{IsGood, IsCallPath}
 use Rattle.plain_netlist.proofs.Members.{listed, position}
-use Rattle.align_laws.specs.Flat.{Placing, CallFate, Stays, Goes, Maps, step, image, placed_net, net_image, row_through, call_through}
+use Rattle.align_laws.specs.Flat.{Placing, CallFate, Stays, Goes, Maps, step, image, placed_net, net_image, call_through}
+use Rattle.plain_netlist.specs.Devices.{row_over}
+use Rattle.plain_netlist.proofs.Rows.{row_over_self, row_over_twice}
 use Rattle.align_laws.specs.Lists.{DeviceAt, CallAt, FlatCircuit, indexed, pieces, joined_place, device_below, call_below, own_device, inner_devices, own_calls, inner_calls, net_in, given_of, row_of, placing_of, maps_of, AreFlat}
 use Rattle.align_laws.specs.Words.{IsInside}
 use Rattle.align_laws.proofs.CutList.{given_is, row_is}
@@ -33,7 +35,7 @@ own_spot c = record { path = []; circuit = c; net = λ n. n }
 
 -- its devices and calls, as the flat circuit has them
 abbrev pub device_at : Stood → ℕ → DeviceRow → DeviceAt
-device_at s j row = record { from = slot s.path j; row = row_through s.net row }
+device_at s j row = record { from = slot s.path j; row = row_over s.net row }
 
 abbrev pub device_list : Netlist → Stood → List DeviceAt
 device_list g s = indexed (device_at s) (given_of g s.circuit).devices
@@ -46,6 +48,17 @@ call_list g goes s = pieces (λ k r. cond (goes r.circuit) [] (call_at s k r ∷
 
 pub there : (g : Netlist) (c : ℕ) (x : Circuit) → IsCircuit g c x → IsCircuit g c (given_of g c)
 there g c x is = is ∙ ap Some (sym (given_is g c x is))
+
+indexed_same : {A B : Type 0} (f h : ℕ → A → B) (xs : List A) → ((k : ℕ) (x : A) → f k x ≡ h k x) → indexed f xs ≡ indexed h xs
+indexed_same f h [] e = refl
+indexed_same {B = B} f h (x ∷ xs) e = ap₂ (λ (y : B) (ys : List B). y ∷ ys) (e 0 x) (indexed_same (λ k. f (suc k)) (λ k. h (suc k)) xs (λ k z. e (suc k) z))
+
+-- a device seen from its own circuit, and one call further out
+own_seen : (c j : ℕ) (row : DeviceRow) → own_device j row ≡ device_at (own_spot c) j row
+own_seen c j row = ap (λ (r : DeviceRow). let z : DeviceAt = record { from = slot [] j; row = r } in z) (sym (row_over_self row))
+
+further_seen : (k : ℕ) (to : ℕ → ℕ) (s : Stood) (j : ℕ) (row : DeviceRow) → device_below k to (device_at s j row) ≡ device_at (below_spot k to s) j row
+further_seen k to s j row = ap (λ (r : DeviceRow). let z : DeviceAt = record { from = slot (k ∷ s.path) j; row = r } in z) (row_over_twice to s.net row)
 
 same_call : (r : CallRow) → r ≡ call_through (λ n. n) r
 same_call r = ap (λ (ns : List ℕ). let z : CallRow = record { circuit = r.circuit; nets = ns } in z) (sym (map_same r.nets))
@@ -64,7 +77,8 @@ module _ (g : Netlist) (goes : ℕ → Bool) (flats : ℕ → FlatCircuit) where
   devices_below k to [] = refl
   devices_below k to (s ∷ ss) =
       map-append (device_below k to) (device_list g s) (flat_map (device_list g) ss)
-      ∙ ap₂ (λ (p q : List DeviceAt). p ++ q) (map_indexed (device_below k to) (device_at s) (given_of g s.circuit).devices) (devices_below k to ss)
+      ∙ ap₂ (λ (p q : List DeviceAt). p ++ q) (map_indexed (device_below k to) (device_at s) (given_of g s.circuit).devices
+      ∙ indexed_same _ (device_at (below_spot k to s)) (given_of g s.circuit).devices (λ j row. further_seen k to s j row)) (devices_below k to ss)
 
   devices_in : (k : ℕ) (to : ℕ → ℕ) (ds : List DeviceAt) (ss : List Stood) → ds ≡ flat_map (device_list g) ss → (b : Bool)
       → cond b (map (device_below k to) ds) [] ≡ flat_map (device_list g) (cond b (map (below_spot k to) ss) [])
@@ -151,7 +165,7 @@ module _ (g f : Netlist) (goes : ℕ → Bool) (flats : ℕ → FlatCircuit) (go
   devices_are (suc m) c low is =
       let x : Circuit = given_of g c in
       ap (λ (z : FlatCircuit). z.devices) (flat.each c x is)
-      ∙ ap (λ (t : List DeviceAt). indexed own_device x.devices ++ t)
+      ∙ ap₂ (λ (p q : List DeviceAt). p ++ q) (indexed_same own_device (device_at (own_spot c)) x.devices (λ j row. own_seen c j row))
       (pieces_same (inner_devices goes flats x) (λ k r. flat_map (device_list g) (inner m c k r)) x.calls
       (λ k r at. devices_in g goes flats k (net_in goes flats x k r) (flats r.circuit).devices (spots m r.circuit) (devices_are m r.circuit (lower m c k r low is at) (called c k r is at)) (goes r.circuit))
       ∙ sym (flat_pieces (device_list g) (inner m c) x.calls))

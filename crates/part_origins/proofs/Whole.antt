@@ -8,7 +8,7 @@ use Rattle.std.proofs.lemmas.List.{length-map}
 use Rattle.std.proofs.lemmas.Option.{none-some, same_Some, slice_get_within}
 use Rattle.plain_netlist.specs.Lists.{IsListed}
 use Rattle.plain_netlist.specs.Netlist.{CallRow, Circuit, Netlist, IsCircuit, IsCall, HasNet, Slot, slot}
-use Rattle.plain_netlist.specs.Normal.{terminal_nets}
+use Rattle.plain_netlist.specs.Devices.{terminal_nets}
 use Rattle.plain_netlist.specs.Sound.{IsGood, IsCallPath}
 use Rattle.plain_netlist.proofs.Listing.{at_apart}
 use Rattle.plain_netlist.proofs.Members.{listed, position, in_all}

@@ -3,7 +3,7 @@ use Rattle.std.specs.Prelude.{ℕ, List, [], ◌++◌, map, flat_map, Option, So
 use Rattle.std.specs.Prelude.{slice_index_or}
 use Rattle.align_laws.specs.Lists.{given_of}
 use Rattle.plain_netlist.specs.Netlist.{CallRow, Circuit, DeviceRow, Netlist}
-use Rattle.plain_netlist.specs.Normal.{terminal_nets}
+use Rattle.plain_netlist.specs.Devices.{terminal_nets}
 use Rattle.part_origins.specs.Inside.{PlainSpot}
 
 abbrev pub net_at : List ℕ → ℕ → ℕ

@@ -4,7 +4,7 @@
 ghost use Rattle.std.specs.Prelude.{◌≡◌, ◌∷◌, ◌++◌, [], None, IfOk, OnOk, cond, filter};
 ghost use Rattle.std.specs.Prelude.{flat_map, is_some, map, slice_index_or};
 ghost use Rattle.net_model.specs.Rows.{plain_call, plain_circuit, plain_device, plain_netlist};
-ghost use Rattle.plain_netlist.specs.Normal.{terminal_nets};
+ghost use Rattle.plain_netlist.specs.Devices.{terminal_nets};
 ghost use Rattle.part_origins.specs.Inside.{plain_spot};
 ghost use Rattle.part_origins.specs.Nets.{call_nets_at, named_nets, net_at, seen_nets};
 ghost use Rattle.part_origins.specs.Nets.{spot_calls, spot_terminals, terminals_at};
@@ -19,10 +19,11 @@ fn add_terminals(nets: &[u32], row: &DeviceRow, seen: &mut Vec<u32>) -> Result<(
     ensures { OnOk result (seen.new.items
         ≡ seen.old.items ++ terminals_at nets.now (plain_device row.now)) }
 {
-    seen.push(number_at(nets, row.drain))?;
-    seen.push(number_at(nets, row.gate))?;
-    seen.push(number_at(nets, row.source))?;
-    seen.push(number_at(nets, row.bulk))?;
+    let mut rest = row.terminal_nets();
+    'terminals: while let [n, more @ ..] = rest {
+        seen.push(number_at(nets, *n))?;
+        rest = more;
+    }
     Ok(())
 }
 
@@ -146,10 +147,7 @@ fn add_named(devices: &[DeviceRow], named: &mut Vec<u32>) -> Result<(), AllocErr
 {
     let mut rest = devices;
     'rows: while let [row, more @ ..] = rest {
-        named.push(row.drain)?;
-        named.push(row.gate)?;
-        named.push(row.source)?;
-        named.push(row.bulk)?;
+        named.extend_from_slice(row.terminal_nets())?;
         rest = more;
     }
     Ok(())

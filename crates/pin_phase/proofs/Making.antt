@@ -23,7 +23,7 @@ use Rattle.gate_phase.proofs.Terminal.{nets_under}
 use Rattle.geo_base.specs.declared.shapes.Rect.{Rect}
 use Rattle.job_graph.specs.Graph.{Waits}
 use Rattle.net_marks.proofs.Grounding.{terminals}
-use Rattle.net_marks.proofs.Poles.{gate_of}
+use Rattle.net_marks.proofs.Listed.{gate_of}
 use Rattle.net_phase.proofs.Righting.{tables_by}
 use Rattle.rule_layers.specs.Meaning.{device_rules, wiring_of}
 use Rattle.rule_text.specs.Rules.{Rules}

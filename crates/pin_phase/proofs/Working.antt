@@ -4,7 +4,7 @@ use Rattle.std.proofs.lemmas.Bool.{or_cases, or_left, or_right}
 use Rattle.std.proofs.Math.Decide.{ℕ_discrete}
 use Rattle.std.proofs.lemmas.Option.{get_or_from_slice_get, slice_get-get_or, slice_get_within}
 use Rattle.cell_graph.specs.Linked.{Linked, IsSound, plain}
-use Rattle.net_marks.proofs.Poles.{gate_of, of_gate}
+use Rattle.net_marks.proofs.Listed.{gate_of, of_gate}
 use Rattle.net_marks.specs.Marks.{has_terminal}
 use Rattle.deep_tables.proofs.Pinning.{pins_over_any}
 use Rattle.deep_tables.specs.Entries.{downward_cell}

@@ -1,17 +1,10 @@
 -- Correspondences turn round and compose, whatever devices and nets are.
-use Rattle.std.proofs.Common.{◌≡◌, ◌⊎◌, inl, inr, ℕ, refl, sym, ◌∙◌, subst}
-use Rattle.plain_netlist.specs.Netlist.{Pole, Source, Gate, Drain, Bulk, DeviceRow, on, Netlist, Slot, slot, InOneNet, HasDevice, IsTerminal, IsOnPin}
-use Rattle.plain_netlist.specs.Flats.{Row, Flat, AreRowsAlike, Corresponds, row_at, expanded, Reversed, Through}
-
-pub rows_reversed : {N M : Type 0} (net : N → M → Type 0) (r : Row N) (s : Row M) → AreRowsAlike net r s → AreRowsAlike (Reversed net) s r
-rows_reversed net r s a = record {
-  class = sym a.class;
-  length = sym a.length;
-  width = sym a.width;
-  gate = a.gate;
-  bulk = a.bulk;
-  channel = elim a.channel [ inl c ↦ inl (c.0, c.1) | inr c ↦ inr (c.1, c.0) ];
-}
+use Rattle.std.proofs.Common.{◌≡◌, ℕ, refl, sym, ◌∙◌, subst}
+use Rattle.plain_netlist.specs.Lists.{IsListed}
+use Rattle.plain_netlist.specs.Devices.{Row, AreRowsAlike, terminal_nets}
+use Rattle.plain_netlist.specs.Netlist.{DeviceRow, Netlist, Slot, slot, InOneNet, HasDevice, IsTerminal, IsOnPin}
+use Rattle.plain_netlist.specs.Flats.{Flat, Corresponds, row_at, expanded, Reversed, Through}
+use Rattle.plain_netlist.proofs.Rows.{rows_same, rows_reversed, rows_through, rows_terminal, over_terminal, terminal_over}
 
 pub reversed : {D N E M : Type 0} (F : Flat D N) (G : Flat E M) (device : D → E → Type 0) (net : N → M → Type 0) → Corresponds F G device net → Corresponds G F (Reversed device) (Reversed net)
 reversed F G device net h = record {
@@ -20,19 +13,6 @@ reversed F G device net h = record {
   devices = λ x y a b k l. let e = h.devices a b x y k l in (e.1, e.0);
   nets = λ x y a b k l. let e = h.nets a b x y k l in (e.1, e.0);
   pins = λ x a k. let e = h.pins a x k in (e.1, e.0);
-}
-
-pub rows_through : {N M O : Type 0} (net : N → M → Type 0) (on_net : M → O → Type 0) (r : Row N) (s : Row M) (v : Row O) → AreRowsAlike net r s → AreRowsAlike on_net s v → AreRowsAlike (Through net on_net) r v
-rows_through net on_net r s v a b = record {
-  class = a.class ∙ b.class;
-  length = a.length ∙ b.length;
-  width = a.width ∙ b.width;
-  gate = (s.net Gate, a.gate, b.gate);
-  bulk = (s.net Bulk, a.bulk, b.bulk);
-  channel = elim a.channel [
-    | inl c ↦ elim b.channel [ inl e ↦ inl ((s.net Source, c.0, e.0), (s.net Drain, c.1, e.1)) | inr e ↦ inr ((s.net Source, c.0, e.0), (s.net Drain, c.1, e.1)) ]
-    | inr c ↦ elim b.channel [ inl e ↦ inr ((s.net Drain, c.0, e.1), (s.net Source, c.1, e.0)) | inr e ↦ inl ((s.net Drain, c.0, e.1), (s.net Source, c.1, e.0)) ]
-  ];
 }
 
 pub through : {D N E M H O : Type 0} (F : Flat D N) (G : Flat E M) (K : Flat H O) (device : D → E → Type 0) (net : N → M → Type 0) (further : E → H → Type 0) (on_net : M → O → Type 0)
@@ -48,8 +28,8 @@ through F G K device net further on_net h k = record {
 -- a circuit's expansion, by equal devices and nets
 pub same : (l : Netlist) (t : ℕ) → Corresponds (expanded l t) (expanded l t) (λ a x. a ≡ x) (λ a x. a ≡ x)
 same l t = record {
-  there = λ a r f. (a, r, f, refl, record { class = refl; length = refl; width = refl; gate = refl; bulk = refl; channel = inl (refl, refl) });
-  back = λ a r f. (a, r, f, refl, record { class = refl; length = refl; width = refl; gate = refl; bulk = refl; channel = inl (refl, refl) });
+  there = λ a r f. (a, r, f, refl, rows_same (λ (a x : Slot). a ≡ x) (λ n. refl) r);
+  back = λ a r f. (a, r, f, refl, rows_same (λ (a x : Slot). a ≡ x) (λ n. refl) r);
   devices = λ a b x y h k. ((λ e. sym h ∙ (e ∙ k)), (λ e. h ∙ (e ∙ sym k)));
   nets = λ a b x y h k. ((λ e. subst (λ z. InOneNet l t z y) h (subst (λ z. InOneNet l t a z) k e)), (λ e. subst (λ z. InOneNet l t z b) (sym h) (subst (λ z. InOneNet l t x z) (sym k) e)));
   pins = λ a x h. ((λ e. subst (λ z. IsOnPin l t z) h e), (λ e. subst (λ z. IsOnPin l t z) (sym h) e));
@@ -63,26 +43,16 @@ module _ (l r : Netlist) (t u : ℕ) (device net : Slot → Slot → Type 0) (h 
   one_origin a b x k m = (h.devices a b x x k m).1 refl
 
   -- the image of a terminal's net is that of a terminal
-  pub image_at : (a x : Slot) (row other : DeviceRow) → HasDevice r u x.path x.net other → AreRowsAlike net (row_at a.path row) (row_at x.path other) → (pole : Pole)
-      → (y : Slot) × IsTerminal r u y × net (slot a.path (on pole row)) y
-  image_at a x row other has alike pole = of pole alike.channel
-    where
-      at : (last : Pole) → IsTerminal r u (slot x.path (on last other))
-      at last = record { device = x.net; row = other; pole = last; has = has; on = refl }
-
-      of : (pole : Pole) → (net (slot a.path row.source) (slot x.path other.source) × net (slot a.path row.drain) (slot x.path other.drain)) ⊎ (net (slot a.path row.source) (slot x.path other.drain) × net (slot a.path row.drain) (slot x.path other.source))
-          → (y : Slot) × IsTerminal r u y × net (slot a.path (on pole row)) y
-      of Source (inl c) = (slot x.path other.source, at Source, c.0)
-      of Source (inr c) = (slot x.path other.drain, at Drain, c.0)
-      of Gate c = (slot x.path other.gate, at Gate, alike.gate)
-      of Drain (inl c) = (slot x.path other.drain, at Drain, c.1)
-      of Drain (inr c) = (slot x.path other.source, at Source, c.1)
-      of Bulk c = (slot x.path other.bulk, at Bulk, alike.bulk)
+  pub image_at : (a x : Slot) (row other : DeviceRow) → HasDevice r u x.path x.net other → AreRowsAlike net (row_at a.path row) (row_at x.path other) → (n : ℕ) → IsListed n (terminal_nets row)
+      → (y : Slot) × IsTerminal r u y × net (slot a.path n) y
+  image_at a x row other has alike n on =
+      let m = rows_terminal net (row_at a.path row) (row_at x.path other) alike (slot a.path n) (over_terminal (slot a.path) row n on) in
+      let o = terminal_over (slot x.path) other m.0 m.1 in
+      (slot x.path o.0, record { device = x.net; row = other; has = has; on = o.1 }, subst (λ z. net (slot a.path n) z) o.2 m.2)
 
   pub terminal_image : (a : Slot) → IsTerminal l t a → (x : Slot) × IsTerminal r u x × net a x
   terminal_image a k =
       let y = h.there (slot a.path k.device) (row_at a.path k.row) (k.row, k.has, refl) in
       let other = y.2 in
       let alike = subst (λ (s : Row Slot). AreRowsAlike net (row_at a.path k.row) s) other.2 y.4 in
-      let x = image_at (slot a.path k.device) y.0 k.row other.0 other.1 alike k.pole in
-      (x.0, x.1, subst (λ n. net (slot a.path n) x.0) k.on x.2)
+      image_at (slot a.path k.device) y.0 k.row other.0 other.1 alike a.net k.on

@@ -6,8 +6,9 @@ use Rattle.std.proofs.Math.Decide.{ℕ_discrete}
 use Rattle.std.proofs.lemmas.Bool.Decides.{leb_tells}
 use Rattle.std.proofs.lemmas.Option.{slice_get_within}
 use Rattle.plain_netlist.specs.Lists.{IsListed}
-use Rattle.plain_netlist.specs.Netlist.{Pole, Source, Gate, Drain, Bulk, on, DeviceRow, CallRow, Circuit, Netlist, IsCircuit, HasNet}
-use Rattle.plain_netlist.specs.Normal.{appearances, terminal_nets}
+use Rattle.plain_netlist.specs.Netlist.{DeviceRow, CallRow, Circuit, Netlist, IsCircuit, HasNet}
+use Rattle.plain_netlist.specs.Devices.{terminal_nets}
+use Rattle.plain_netlist.specs.Normal.{appearances}
 use Rattle.plain_netlist.specs.Sound.{NetlistFault, NameClash, BadTerminal, NoSuchCircuit, PinCount, CircuitCycle, ShowsFault, fault_rank, AreNetsThere, AreCallsFitting, IsSoundNetlist, SoundLaw, OneFaultLaw}
 use Rattle.plain_netlist.proofs.Once.{one_circuit}
 use Rattle.plain_netlist.proofs.Members.{listed, position, in_left, in_right, either_side, in_all, from_all}
@@ -19,10 +20,13 @@ sides a b = elim (leb_tells b a) [
   | inr h ↦ inl h.1
 ]
 
+abbrev nets_named : DeviceRow → List ℕ
+nets_named row = terminal_nets row
+
 -- the nets that a circuit names are those of its pins, devices and calls
 module _ (x : Circuit) where
   abbrev on_devices : List ℕ
-  on_devices = flat_map terminal_nets x.devices
+  on_devices = flat_map nets_named x.devices
 
   abbrev on_calls : List ℕ
   on_calls = flat_map (λ (r : CallRow). r.nets) x.calls
@@ -30,38 +34,25 @@ module _ (x : Circuit) where
   pub at_pin : (i n : ℕ) → slice_get x.pins i ≡ Some n → IsListed n (appearances x)
   at_pin i n h = in_left x.pins (on_devices ++ on_calls) n (listed x.pins i n h)
 
-  pub pole_listed : (pole : Pole) (row : DeviceRow) → IsListed (on pole row) (terminal_nets row)
-  pole_listed Source row = inr (inr (inl refl))
-  pole_listed Gate row = inr (inl refl)
-  pole_listed Drain row = inl refl
-  pole_listed Bulk row = inr (inr (inr (inl refl)))
-
-  pub at_device : (j : ℕ) (row : DeviceRow) (pole : Pole) → slice_get x.devices j ≡ Some row → IsListed (on pole row) (appearances x)
-  at_device j row pole h = in_right x.pins (on_devices ++ on_calls) (on pole row)
-      (in_left on_devices on_calls (on pole row) (in_all terminal_nets x.devices row (on pole row) (listed x.devices j row h) (pole_listed pole row)))
+  pub at_device : (j n : ℕ) (row : DeviceRow) → slice_get x.devices j ≡ Some row → IsListed n (terminal_nets row) → IsListed n (appearances x)
+  at_device j n row h g = in_right x.pins (on_devices ++ on_calls) n
+      (in_left on_devices on_calls n (in_all nets_named x.devices row n (listed x.devices j row h) g))
 
   pub at_call : (k p n : ℕ) (row : CallRow) → slice_get x.calls k ≡ Some row → slice_get row.nets p ≡ Some n → IsListed n (appearances x)
   at_call k p n row h g = in_right x.pins (on_devices ++ on_calls) n
       (in_right on_devices on_calls n (in_all (λ (r : CallRow). r.nets) x.calls row n (listed x.calls k row h) (listed row.nets p n g)))
 
-  pole_of : (row : DeviceRow) (n : ℕ) → IsListed n (terminal_nets row) → (pole : Pole) × (on pole row ≡ n)
-  pole_of row n (inl e) = (Drain, sym e)
-  pole_of row n (inr (inl e)) = (Gate, sym e)
-  pole_of row n (inr (inr (inl e))) = (Source, sym e)
-  pole_of row n (inr (inr (inr (inl e)))) = (Bulk, sym e)
-  pole_of row n (inr (inr (inr (inr e)))) = absurd e
-
   -- where the circuit names a net
   pub data Mention (n : ℕ) : Type 0 where
     AtPin : (i : ℕ) → slice_get x.pins i ≡ Some n → Mention n
-    AtDevice : (j : ℕ) (row : DeviceRow) (pole : Pole) → slice_get x.devices j ≡ Some row → on pole row ≡ n → Mention n
+    AtDevice : (j : ℕ) (row : DeviceRow) → slice_get x.devices j ≡ Some row → IsListed n (terminal_nets row) → Mention n
     AtCall : (k p : ℕ) (row : CallRow) → slice_get x.calls k ≡ Some row → slice_get row.nets p ≡ Some n → Mention n
 
   pub mention : (n : ℕ) → IsListed n (appearances x) → Mention n
   mention n h = elim (either_side x.pins (on_devices ++ on_calls) n h) [
     | inl a ↦ let r = position x.pins n a in AtPin r.0 r.1
     | inr b ↦ elim (either_side on_devices on_calls n b) [
-      | inl a ↦ let r = from_all terminal_nets x.devices n a in let q = position x.devices r.0 r.1 in let p = pole_of r.0 n r.2 in AtDevice q.0 r.0 p.0 q.1 p.1
+      | inl a ↦ let r = from_all nets_named x.devices n a in let q = position x.devices r.0 r.1 in AtDevice q.0 r.0 q.1 r.2
       | inr a ↦ let r = from_all (λ (row : CallRow). row.nets) x.calls n a in let q = position x.calls r.0 r.1 in let p = position r.0.nets n r.2 in AtCall q.0 p.0 r.0 q.1 p.1
     ]
   ]
@@ -71,7 +62,7 @@ pub is_there : (nl : Netlist) (c n : ℕ) (x : Circuit) → AreNetsThere nl → 
 is_there nl c n x nets is h =
     let has : HasNet nl c n = elim (mention x n h) [
       | AtPin i e ↦ nets.pins c i n (x, is, e)
-      | AtDevice j row pole e o ↦ subst (λ m. HasNet nl c m) o (nets.devices c j row pole (x, is, e))
+      | AtDevice j row e o ↦ nets.devices c j n row (x, is, e) o
       | AtCall k p row e o ↦ nets.calls c k p n row (x, is, e) o
     ] in
     subst (λ (y : Circuit). n < length y.nets) (one_circuit nl c has.0 x has.1 is) has.2
@@ -81,7 +72,7 @@ pub nets_there : (nl : Netlist) → ((c n : ℕ) (x : Circuit) → IsCircuit nl 
 nets_there nl h = record {
   pins = λ c i n (x, is, e). (x, is, h c n x is (at_pin x i n e));
   calls = λ c k p n row (x, is, e) o. (x, is, h c n x is (at_call x k p n row e o));
-  devices = λ c j row pole (x, is, e). (x, is, h c (on pole row) x is (at_device x j row pole e));
+  devices = λ c j n row (x, is, e) o. (x, is, h c n x is (at_device x j n row e o));
 }
 
 module _ (nl : Netlist) (s : IsSoundNetlist nl) where

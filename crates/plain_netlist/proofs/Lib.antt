@@ -1,6 +1,7 @@
 pub mod Links
-pub mod Alike
 pub mod Members
+pub mod Rows
+pub mod Alike
 pub mod Listing
 pub mod Once
 pub mod Faults

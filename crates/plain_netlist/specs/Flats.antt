@@ -1,14 +1,8 @@
 -- Flat netlists of any kind, what a circuit expands to as one, and when two are the same.
-use Rattle.std.specs.Prelude.{◌≡◌, ◌⊎◌, ◌↔◌, ℕ, List}
-use Rattle.plain_netlist.specs.Netlist.{Pole, Source, Gate, Drain, Bulk, DeviceRow, on, Netlist}
-use Rattle.plain_netlist.specs.Netlist.{Slot, slot, InOneNet, HasDevice, IsOnPin}
-
--- a transistor over nets of any kind: its class, its sizes in femtometres, its terminals' nets
-pub record Row (N : Type 0) : Type 0 where
-  pub class : List ℕ
-  pub length : ℕ
-  pub width : ℕ
-  pub net : Pole → N
+use Rattle.std.specs.Prelude.{◌≡◌, ◌↔◌, ℕ, List}
+use Rattle.plain_netlist.specs.Devices.{Row, AreRowsAlike, row_over}
+use Rattle.plain_netlist.specs.Netlist.{DeviceRow, Netlist, Slot, slot, InOneNet, HasDevice}
+use Rattle.plain_netlist.specs.Netlist.{IsOnPin}
 
 -- devices and nets, each known by one name or more: which rows a device has, which names are of one
 -- device, which of one net, and which nets are pins
@@ -17,17 +11,6 @@ pub record Flat (D N : Type 0) : Type 1 where
   pub one_device : D → D → Type 0
   pub one_net : N → N → Type 0
   pub is_pin : N → Type 0
-
--- class and sizes are kept; gate and bulk go to gate and bulk; source and drain go to the two, in
--- either order
-pub record AreRowsAlike {N M : Type 0} (net : N → M → Type 0) (a : Row N) (b : Row M) : Type 0 where
-  pub class : a.class ≡ b.class
-  pub length : a.length ≡ b.length
-  pub width : a.width ≡ b.width
-  pub gate : net (a.net Gate) (b.net Gate)
-  pub bulk : net (a.net Bulk) (b.net Bulk)
-  pub channel : (net (a.net Source) (b.net Source) × net (a.net Drain) (b.net Drain))
-      ⊎ (net (a.net Source) (b.net Drain) × net (a.net Drain) (b.net Source))
 
 -- these pairs of devices and of nets are a one-to-one correspondence of all devices and of the nets
 -- of their terminals, which keeps class, sizes, terminals and pins
@@ -42,23 +25,9 @@ pub record Corresponds {D N E M : Type 0} (F : Flat D N) (G : Flat E M)
   pub nets : (a b : N) (x y : M) → net a x → net b y → F.one_net a b ↔ G.one_net x y
   pub pins : (a : N) (x : M) → net a x → F.is_pin a ↔ G.is_pin x
 
--- a device's row over the nets of its circuit
-abbrev pub row_of : DeviceRow → Row ℕ
-row_of row = record {
-  class = row.class;
-  length = row.length;
-  width = row.width;
-  net = λ pole. on pole row;
-}
-
--- and over the nets of the circuit at the end of a path
+-- a device over the nets of the circuit at the end of a path
 abbrev pub row_at : List ℕ → DeviceRow → Row Slot
-row_at path row = record {
-  class = row.class;
-  length = row.length;
-  width = row.width;
-  net = λ pole. slot path (on pole row);
-}
+row_at path row = row_over (slot path) row
 
 -- what a circuit expands to: the devices at the ends of paths of calls, and the nets that the calls
 -- join

@@ -1,9 +1,11 @@
 pub mod Lists
 pub mod Chains
+pub mod Kinds
+pub mod Devices
 pub mod Netlist
-pub mod Classes
 pub mod OneNet
 pub mod Normal
 pub mod Sound
 pub mod Flats
 pub mod FlatLaws
+pub mod DeviceLaws

@@ -1,30 +1,12 @@
 -- Netlists as circuits that call each other, and what a circuit expands to.
 use Rattle.std.specs.Prelude.{◌≡◌, ◌⊎◌, ◌<◌, ℕ, List, [], ◌∷◌, ◌++◌, length, Some, slice_get}
+use Rattle.plain_netlist.specs.Lists.{IsListed}
 use Rattle.plain_netlist.specs.Chains.{Reaches}
+use Rattle.plain_netlist.specs.Devices.{Row, terminal_nets}
 
--- the four terminals of a transistor
-pub data Pole : Type 0 where
-  Source : Pole
-  Gate : Pole
-  Drain : Pole
-  Bulk : Pole
-
--- a transistor: its class, its sizes in femtometres, and the nets of its terminals
-pub record DeviceRow : Type 0 where
-  pub class : List ℕ
-  pub length : ℕ
-  pub width : ℕ
-  pub source : ℕ
-  pub gate : ℕ
-  pub drain : ℕ
-  pub bulk : ℕ
-
--- the net of a terminal
-abbrev pub on : Pole → DeviceRow → ℕ
-on Source r = r.source
-on Gate r = r.gate
-on Drain r = r.drain
-on Bulk r = r.bulk
+-- a device over the nets of its circuit
+abbrev pub DeviceRow : Type 0
+DeviceRow = Row ℕ
 
 -- a call of a circuit, with the caller's net at each of its pins
 pub record CallRow : Type 0 where
@@ -108,9 +90,8 @@ IsSlot nl t (k ∷ ks) n = (row : CallRow) × IsCall nl t k row × IsSlot nl row
 pub record IsTerminal (nl : Netlist) (t : ℕ) (a : Slot) : Type 0 where
   pub device : ℕ
   pub row : DeviceRow
-  pub pole : Pole
   pub has : HasDevice nl t a.path device row
-  pub on : on pole row ≡ a.net
+  pub on : IsListed a.net (terminal_nets row)
 
 -- the slot's net holds a pin of circuit t
 abbrev pub IsOnPin : Netlist → ℕ → Slot → Type 0

@@ -1,16 +1,14 @@
 -- Normal form of a circuit: first the pins, then nets as devices and then calls first name them.
 use Rattle.std.specs.Prelude.{◌≡◌, ◌⊎◌, ◌<◌, ℕ, suc, List, [], ◌∷◌, ◌++◌, length, flat_map, Some}
 use Rattle.std.specs.Prelude.{slice_get}
+use Rattle.plain_netlist.specs.Devices.{terminal_nets}
 use Rattle.plain_netlist.specs.Netlist.{DeviceRow, CallRow, Circuit, Netlist, IsCircuit}
-
--- the nets of a device's terminals in the order of a netlist's text: drain, gate, source, bulk
-abbrev pub terminal_nets : DeviceRow → List ℕ
-terminal_nets d = d.drain ∷ d.gate ∷ d.source ∷ d.bulk ∷ []
 
 -- the nets of a circuit in the order in which its pins, devices and calls name them
 abbrev pub appearances : Circuit → List ℕ
 appearances c =
-    c.pins ++ (flat_map terminal_nets c.devices ++ flat_map (λ (r : CallRow). r.nets) c.calls)
+    c.pins ++ (flat_map (λ (d : DeviceRow). terminal_nets d) c.devices
+    ++ flat_map (λ (r : CallRow). r.nets) c.calls)
 
 -- each number is one that was seen before or the next new one, and there are so many in all
 abbrev pub AreNumbered : ℕ → ℕ → List ℕ → Type 0

@@ -2,7 +2,8 @@
 use Rattle.std.specs.Prelude.{◌≡◌, ◌≢◌, ◌⊎◌, ◌↔◌, ◌<◌, ◌≤◌, ℕ, List, [], ◌∷◌, length, Some}
 use Rattle.std.specs.Prelude.{slice_get}
 use Rattle.plain_netlist.specs.Lists.{IsListed}
-use Rattle.plain_netlist.specs.Netlist.{Pole, on, DeviceRow, CallRow, Circuit, Netlist, IsCircuit}
+use Rattle.plain_netlist.specs.Devices.{terminal_nets}
+use Rattle.plain_netlist.specs.Netlist.{DeviceRow, CallRow, Circuit, Netlist, IsCircuit}
 use Rattle.plain_netlist.specs.Netlist.{IsCall, IsDevice, IsPin, HasNet, HasDevice}
 use Rattle.plain_netlist.specs.Normal.{appearances, IsNormalNetlist}
 
@@ -83,8 +84,8 @@ pub record AreNetsThere (nl : Netlist) : Type 0 where
   pub pins : (c i n : ℕ) → IsPin nl c i n → HasNet nl c n
   pub calls : (c k p n : ℕ) (row : CallRow) → IsCall nl c k row → slice_get row.nets p ≡ Some n
       → HasNet nl c n
-  pub devices : (c j : ℕ) (row : DeviceRow) (pole : Pole) → IsDevice nl c j row
-      → HasNet nl c (on pole row)
+  pub devices : (c j n : ℕ) (row : DeviceRow) → IsDevice nl c j row
+      → IsListed n (terminal_nets row) → HasNet nl c n
 
 -- each call is of a circuit, with as many nets as that has pins
 abbrev pub AreCallsFitting : Netlist → Type 0

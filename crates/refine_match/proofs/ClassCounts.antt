@@ -1,8 +1,10 @@
--- Unequal numbers of devices of a class are unequal numbers of devices of some of its sizes.
-use Rattle.std.proofs.Common.{◌≡◌, ◌≢◌, ◌⊎◌, inl, inr, ℕ, ◌+◌, ◌==◌, ◌&&◌, Bool, true, false, cond, List, [], ◌∷◌, refl, sym, ◌∙◌, ap, arith}
+-- Unequal numbers of devices of a kind and class are unequal numbers of devices of some of its sizes.
+use Rattle.std.proofs.Common.{◌≡◌, ◌≢◌, ◌⊎◌, inl, inr, ℕ, ◌+◌, ◌&&◌, Bool, true, false, cond, bytes_eq, List, [], ◌∷◌, refl, sym, ◌∙◌, ap, ap₂, arith}
 use Rattle.std.specs.List.{count_by}
 use Rattle.std.proofs.lemmas.Bool.{and_from, and_parts, cases_Bool}
-use Rattle.std.proofs.lemmas.Bool.Decides.{Decides-eqb}
+use Rattle.std.proofs.lemmas.Slice.Eq.{bytes_eq-Decides}
+use Rattle.plain_netlist.specs.declared.kinds.DeviceKind.{DeviceKind}
+use Rattle.plain_netlist.specs.Kinds.{same_device_kind}
 use Rattle.plain_netlist.specs.Netlist.{DeviceRow}
 use Rattle.round_laws.proofs.Agree.{count-cons}
 use Rattle.match_laws.specs.Circuits.{Pair}
@@ -37,78 +39,84 @@ take_one test (y ∷ ys) = elim (cases_Bool (test y)) [
 ]
 
 -- it is of its own sizes
-of_own : (class : List ℕ) (y : DeviceRow) → has_class class y ≡ true → is_of class y.length y.width y ≡ true
-of_own class y e = and_from _ _ e (and_from _ _ ((Decides-eqb y.length y.length).1 refl) ((Decides-eqb y.width y.width).1 refl))
+of_own : (kind : DeviceKind) (class : List ℕ) (y : DeviceRow) → has_class kind class y ≡ true → is_of kind class y.sizes y ≡ true
+of_own kind class y e =
+    let s = and_parts (same_device_kind kind y.kind) (bytes_eq class y.class) e in
+    and_from _ _ s.0 (and_from _ _ s.1 ((bytes_eq-Decides y.sizes y.sizes).1 refl))
+
+false_longer : (a b c : Bool) → (a && b) ≡ false → (a && (b && c)) ≡ false
+false_longer true b c e = ap (λ (t : Bool). t && c) e
+false_longer false b c e = refl
 
 -- a device of another class is of none of its sizes
-of_none : (class : List ℕ) (l w : ℕ) (y : DeviceRow) → has_class class y ≡ false → is_of class l w y ≡ false
-of_none class l w y e = ap (λ (b : Bool). b && ((l == y.length) && (w == y.width))) e
+of_none : (kind : DeviceKind) (class sizes : List ℕ) (y : DeviceRow) → has_class kind class y ≡ false → is_of kind class sizes y ≡ false
+of_none kind class sizes y e = false_longer (same_device_kind kind y.kind) (bytes_eq class y.class) (bytes_eq sizes y.sizes) e
 
--- two devices of one class and one size count alike
-of_both : (class : List ℕ) (l w : ℕ) (x y : DeviceRow) → has_class class x ≡ true → is_of class x.length x.width y ≡ true → is_of class l w x ≡ is_of class l w y
-of_both class l w x y e h =
-    let first = and_parts (has_class class y) ((x.length == y.length) && (x.width == y.width)) h in
-    let then = and_parts (x.length == y.length) (x.width == y.width) first.1 in
-    let long = (Decides-eqb x.length y.length).0 then.0 in
-    let wide = (Decides-eqb x.width y.width).0 then.1 in
-    ap (λ (b : Bool). b && ((l == x.length) && (w == x.width))) (e ∙ sym first.0)
-    ∙ (ap (λ (n : ℕ). has_class class y && ((l == n) && (w == x.width))) long ∙ ap (λ (n : ℕ). has_class class y && ((l == y.length) && (w == n))) wide)
+-- two devices of one class that have the same sizes count alike
+of_both : (kind : DeviceKind) (class sizes : List ℕ) (x y : DeviceRow) → has_class kind class x ≡ true → is_of kind class x.sizes y ≡ true → is_of kind class sizes x ≡ is_of kind class sizes y
+of_both kind class sizes x y e h =
+    let a = and_parts (same_device_kind kind x.kind) (bytes_eq class x.class) e in
+    let b = and_parts (same_device_kind kind y.kind) (bytes_eq class y.class && bytes_eq x.sizes y.sizes) h in
+    let c = and_parts (bytes_eq class y.class) (bytes_eq x.sizes y.sizes) b.1 in
+    ap₂ (λ (s t : Bool). s && t) (a.0 ∙ sym b.0)
+    (ap₂ (λ (s t : Bool). s && t) (a.1 ∙ sym c.0) (ap (bytes_eq sizes) ((bytes_eq-Decides x.sizes y.sizes).0 c.1)))
 
-uneven_sizes : (class : List ℕ) (xs ys : List DeviceRow) → (count_by (has_class class) xs ≢ count_by (has_class class) ys)
-    → (l : ℕ) × (w : ℕ) × (count_by (is_of class l w) xs ≢ count_by (is_of class l w) ys)
-uneven_sizes class [] ys differ = elim (take_one (has_class class) ys) [
+has_kept : (kind : DeviceKind) (class sizes : List ℕ) (y : DeviceRow) → is_of kind class sizes y ≡ true → has_class kind class y ≡ true
+has_kept kind class sizes y h =
+    let b = and_parts (same_device_kind kind y.kind) (bytes_eq class y.class && bytes_eq sizes y.sizes) h in
+    and_from _ _ b.0 (and_parts (bytes_eq class y.class) (bytes_eq sizes y.sizes) b.1).0
+
+uneven_sizes : (kind : DeviceKind) (class : List ℕ) (xs ys : List DeviceRow) → (count_by (has_class kind class) xs ≢ count_by (has_class kind class) ys)
+    → (sizes : List ℕ) × (count_by (is_of kind class sizes) xs ≢ count_by (is_of kind class sizes) ys)
+uneven_sizes kind class [] ys differ = elim (take_one (has_class kind class) ys) [
   | inl h ↦ (
-    h.device.length,
-    h.device.width,
+    h.device.sizes,
     λ e.
-        let f = is_of class h.device.length h.device.width in
+        let f = is_of kind class h.device.sizes in
         let a = h.counts f in
-        let b = one f h.device (of_own class h.device h.passes) in
+        let b = one f h.device (of_own kind class h.device h.passes) in
         let c : 0 ≡ count_by f ys = e in
         omega (arith, a, b, c),
   )
   | inr empty ↦ absurd (differ (sym empty))
 ]
-uneven_sizes class (x ∷ xs) ys differ = elim (cases_Bool (has_class class x)) [
+uneven_sizes kind class (x ∷ xs) ys differ = elim (cases_Bool (has_class kind class x)) [
   | inr not ↦
-      let a = count-cons (has_class class) x xs in
-      let b = none (has_class class) x not in
-      let rest = uneven_sizes class xs ys (λ e. differ (omega (arith, a, b, e))) in (
+      let a = count-cons (has_class kind class) x xs in
+      let b = none (has_class kind class) x not in
+      let rest = uneven_sizes kind class xs ys (λ e. differ (omega (arith, a, b, e))) in (
         rest.0,
-        rest.1,
         λ e.
-            let f = is_of class rest.0 rest.1 in
+            let f = is_of kind class rest.0 in
             let c = count-cons f x xs in
-            let d = none f x (of_none class rest.0 rest.1 x not) in
-            rest.2 (omega (arith, c, d, e)),
+            let d = none f x (of_none kind class rest.0 x not) in
+            rest.1 (omega (arith, c, d, e)),
       )
-  | inl is ↦ elim (take_one (is_of class x.length x.width) ys) [
+  | inl is ↦ elim (take_one (is_of kind class x.sizes) ys) [
     | inl h ↦
-        let a = count-cons (has_class class) x xs in
-        let b = h.counts (has_class class) in
-        let p = one (has_class class) x is in
-        let q = one (has_class class) h.device (and_parts _ _ h.passes).0 in
-        let rest = uneven_sizes class xs h.others (λ e. differ (omega (arith, a, b, p, q, e))) in (
+        let a = count-cons (has_class kind class) x xs in
+        let b = h.counts (has_class kind class) in
+        let p = one (has_class kind class) x is in
+        let q = one (has_class kind class) h.device (has_kept kind class x.sizes h.device h.passes) in
+        let rest = uneven_sizes kind class xs h.others (λ e. differ (omega (arith, a, b, p, q, e))) in (
           rest.0,
-          rest.1,
           λ e.
-              let f = is_of class rest.0 rest.1 in
+              let f = is_of kind class rest.0 in
               let c = count-cons f x xs in
               let d = h.counts f in
-              let s = ap (λ (b : Bool). cond {A = ℕ} b 1 0) (of_both class rest.0 rest.1 x h.device is h.passes) in
-              rest.2 (omega (arith, c, d, s, e)),
+              let s = ap (λ (b : Bool). cond {A = ℕ} b 1 0) (of_both kind class rest.0 x h.device is h.passes) in
+              rest.1 (omega (arith, c, d, s, e)),
         )
     | inr empty ↦ (
-      x.length,
-      x.width,
+      x.sizes,
       λ e.
-          let f = is_of class x.length x.width in
+          let f = is_of kind class x.sizes in
           let a = count-cons f x xs in
-          let b = one f x (of_own class x is) in
+          let b = one f x (of_own kind class x is) in
           omega (arith, a, b, empty, e),
     )
   ]
 ]
 
 pub uneven_class : (p : Pair) → HaveUnevenClass p → HaveUnevenDevices p
-uneven_class p h = let u = uneven_sizes h.0 p.left.devices p.right.devices h.1 in (h.0, u.0, u.1, u.2)
+uneven_class p h = let u = uneven_sizes h.0 h.1 p.left.devices p.right.devices h.2 in (h.0, h.1, u.0, u.1)

@@ -1,8 +1,9 @@
--- How many devices of a class, length and width there are.
+-- How many devices of a kind, class and sizes there are.
 use Rattle.std.proofs.Common.{◌≡◌, ◌≢◌, inl, inr, ℕ, suc, ◌-◌, Bool, true, cond, Option, Some, None, List, [], ◌∷◌, length, slice_get, refl, sym, subst, ◌∙◌, ap, arith}
 use Rattle.std.specs.List.{count_by, sum_by}
 use Rattle.std.proofs.lemmas.List.Sums.{sum_by-cons}
 use Rattle.std.proofs.lemmas.Bool.{cases_lt}
+use Rattle.plain_netlist.specs.declared.kinds.DeviceKind.{DeviceKind}
 use Rattle.plain_netlist.specs.Lists.{IsListed}
 use Rattle.plain_netlist.specs.Netlist.{DeviceRow, CallRow}
 use Rattle.round_laws.specs.Web.{IsNode, IsUneven, on_left, on_right}
@@ -32,15 +33,15 @@ no_sum f [] h = refl
 no_sum f (x ∷ xs) h = let a = sum_by-cons f x xs in let b = h x in let c = no_sum f xs h in omega arith
 
 abbrev device_own : Option DeviceRow → Own
-device_own o = elim o [ None ↦ OfNone | Some d ↦ OfDevice d.class d.length d.width ]
+device_own o = elim o [ None ↦ OfNone | Some d ↦ OfDevice d.kind d.class d.sizes ]
 
 abbrev call_own : Option CallRow → Own
 call_own o = elim o [ None ↦ OfNone | Some c ↦ OfCall c.circuit ]
 
 -- the nodes of a side that look like a device
-pub device_count : (p : Pair) (side : Side) (class : List ℕ) (l w : ℕ) → count_by (λ a. same_own (OfDevice class l w) (own p a)) (nodes p side) ≡ count_by (is_of class l w) (circuit_of p side).devices
-device_count p side class l w =
-    let test : Own → ℕ = λ o. cond {A = ℕ} (same_own (OfDevice class l w) o) 1 0 in
+pub device_count : (p : Pair) (side : Side) (kind : DeviceKind) (class sizes : List ℕ) → count_by (λ a. same_own (OfDevice kind class sizes) (own p a)) (nodes p side) ≡ count_by (is_of kind class sizes) (circuit_of p side).devices
+device_count p side kind class sizes =
+    let test : Own → ℕ = λ o. cond {A = ℕ} (same_own (OfDevice kind class sizes) o) 1 0 in
     let g : Node → ℕ = λ a. test (own p a) in
     let ds = (circuit_of p side).devices in
     let nets = no_sum (λ k. g (node side Net k)) (numbers_from 0 (size p side Net)) (λ k. refl) in
@@ -55,14 +56,14 @@ device_count p side class l w =
     omega arith
 
 -- a device whose class has unequal counts
-uneven_at : (p : Pair) (class : List ℕ) (l w : ℕ) (c : Node) → IsNode (web_of p) c → same_own (OfDevice class l w) (own p c) ≡ true
-    → (count_by (is_of class l w) p.left.devices ≢ count_by (is_of class l w) p.right.devices) → IsUneven (web_of p) 0 c
-uneven_at p class l w c n t differ =
-    let e : OfDevice class l w ≡ own p c = (own_decides _ _).0 t in
-    let left : on_left (web_of p) 0 c ≡ count_by (is_of class l w) p.left.devices
-    = subst (λ (o : Own). count_by (λ a. same_own o (own p a)) (nodes p Layout) ≡ count_by (is_of class l w) p.left.devices) e (device_count p Layout class l w) in
-    let right : on_right (web_of p) 0 c ≡ count_by (is_of class l w) p.right.devices
-    = subst (λ (o : Own). count_by (λ a. same_own o (own p a)) (nodes p Schematic) ≡ count_by (is_of class l w) p.right.devices) e (device_count p Schematic class l w) in
+uneven_at : (p : Pair) (kind : DeviceKind) (class sizes : List ℕ) (c : Node) → IsNode (web_of p) c → same_own (OfDevice kind class sizes) (own p c) ≡ true
+    → (count_by (is_of kind class sizes) p.left.devices ≢ count_by (is_of kind class sizes) p.right.devices) → IsUneven (web_of p) 0 c
+uneven_at p kind class sizes c n t differ =
+    let e : OfDevice kind class sizes ≡ own p c = (own_decides _ _).0 t in
+    let left : on_left (web_of p) 0 c ≡ count_by (is_of kind class sizes) p.left.devices
+    = subst (λ (o : Own). count_by (λ a. same_own o (own p a)) (nodes p Layout) ≡ count_by (is_of kind class sizes) p.left.devices) e (device_count p Layout kind class sizes) in
+    let right : on_right (web_of p) 0 c ≡ count_by (is_of kind class sizes) p.right.devices
+    = subst (λ (o : Own). count_by (λ a. same_own o (own p a)) (nodes p Schematic) ≡ count_by (is_of kind class sizes) p.right.devices) e (device_count p Schematic kind class sizes) in
     record { node = n; counts = λ f. differ (sym left ∙ (f ∙ right)) }
 
 pub uneven_device : (p : Pair) → HaveUnevenDevices p → (c : Node) × IsUneven (web_of p) 0 c

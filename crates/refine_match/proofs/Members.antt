@@ -55,12 +55,12 @@ same_candidates s w j k a web sj sk i =
 -- nodes that look alike are of one kind
 abbrev kind_in : Own → Option Kind
 kind_in (OfNet b n) = Some Net
-kind_in (OfDevice c l w) = Some Device
+kind_in (OfDevice k c s) = Some Device
 kind_in (OfCall p) = Some Call
 kind_in OfNone = None
 
 abbrev device_own : Option DeviceRow → Own
-device_own o = elim o [ None ↦ OfNone | Some d ↦ OfDevice d.class d.length d.width ]
+device_own o = elim o [ None ↦ OfNone | Some d ↦ OfDevice d.kind d.class d.sizes ]
 
 abbrev call_own : Option CallRow → Own
 call_own o = elim o [ None ↦ OfNone | Some c ↦ OfCall c.circuit ]

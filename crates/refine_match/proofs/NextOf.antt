@@ -37,7 +37,7 @@ read_name [] k l = absurd (omega arith)
 read_name (x ∷ xs) zero l = refl
 read_name (x ∷ xs) (suc k) l = read_name xs k (omega arith)
 
-no_device : (b : Bool) (n : List ℕ) (o : Option DeviceRow) → same_own (OfNet b n) (elim o [ None ↦ OfNone | Some d ↦ OfDevice d.class d.length d.width ]) ≡ true → ⊥
+no_device : (b : Bool) (n : List ℕ) (o : Option DeviceRow) → same_own (OfNet b n) (elim o [ None ↦ OfNone | Some d ↦ OfDevice d.kind d.class d.sizes ]) ≡ true → ⊥
 no_device b n None t = true≢false (sym t)
 no_device b n (Some d) t = true≢false (sym t)
 

@@ -1,5 +1,7 @@
 -- What follows from the answer of a comparison.
-use Rattle.std.specs.Prelude.{◌≢◌, ◌⊎◌, ◌<◌, ◌≤◌, ◌==◌, ◌&&◌, ℕ, Bool, List, bytes_eq, count_by}
+use Rattle.std.specs.Prelude.{◌≢◌, ◌⊎◌, ◌<◌, ◌≤◌, ◌&&◌, ℕ, Bool, List, bytes_eq, count_by}
+use Rattle.plain_netlist.specs.declared.kinds.DeviceKind.{DeviceKind}
+use Rattle.plain_netlist.specs.Kinds.{same_device_kind}
 use Rattle.plain_netlist.specs.Netlist.{DeviceRow}
 use Rattle.round_laws.specs.Web.{Web, IsNode, IsStable, on_left, on_right}
 use Rattle.round_laws.specs.Nodes.{Node}
@@ -44,25 +46,26 @@ IsUndecided (answer.Differs evidence) = ⊥
 IsUndecided (answer.Undecided guesses) = Unit {0}
 IsUndecided (answer.Skipped pair) = ⊥
 
--- whether a device is of this class
-abbrev pub has_class : List ℕ → DeviceRow → Bool
-has_class class d = bytes_eq class d.class
+-- whether a device is of this kind and class
+abbrev pub has_class : DeviceKind → List ℕ → DeviceRow → Bool
+has_class kind class d = same_device_kind kind d.kind && bytes_eq class d.class
 
--- whether it is of this class, length and width
-abbrev pub is_of : List ℕ → ℕ → ℕ → DeviceRow → Bool
-is_of class length width d =
-    has_class class d && ((length == d.length) && (width == d.width))
+-- whether it is of this kind and class, and has these sizes
+abbrev pub is_of : DeviceKind → List ℕ → List ℕ → DeviceRow → Bool
+is_of kind class sizes d =
+    same_device_kind kind d.kind && (bytes_eq class d.class && bytes_eq sizes d.sizes)
 
--- of some class, length and width one circuit has more devices than the other
+-- of some kind, class and sizes one circuit has more devices than the other
 abbrev pub HaveUnevenDevices : Pair → Type 0
-HaveUnevenDevices p = (class : List ℕ) × (length : ℕ) × (width : ℕ)
-    × (count_by (is_of class length width) p.left.devices
-    ≢ count_by (is_of class length width) p.right.devices)
+HaveUnevenDevices p = (kind : DeviceKind) × (class : List ℕ) × (sizes : List ℕ)
+    × (count_by (is_of kind class sizes) p.left.devices
+    ≢ count_by (is_of kind class sizes) p.right.devices)
 
--- of some class, whatever the sizes, one circuit has more devices than the other
+-- of some kind and class, whatever the sizes, one circuit has more devices than the other
 abbrev pub HaveUnevenClass : Pair → Type 0
-HaveUnevenClass p = (class : List ℕ) × (count_by (has_class class) p.left.devices
-    ≢ count_by (has_class class) p.right.devices)
+HaveUnevenClass p = (kind : DeviceKind) × (class : List ℕ)
+    × (count_by (has_class kind class) p.left.devices
+    ≢ count_by (has_class kind class) p.right.devices)
 
 -- each class of a stable round has one node of each circuit at most
 abbrev pub AreSingleClasses : Web Node → Type 0

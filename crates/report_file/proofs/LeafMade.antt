@@ -4,16 +4,17 @@ use Rattle.std.specs.Prelude.{flat_map}
 use Rattle.std.proofs.Math.Decide.{ℕ_discrete}
 use Rattle.align_laws.specs.Aligned.{HasOnlyKept, IsAligned}
 use Rattle.align_laws.specs.Cut.{Alignment}
-use Rattle.align_laws.specs.Flat.{row_through}
 use Rattle.align_laws.proofs.CutList.{cut_pruned}
 use Rattle.align_laws.proofs.FlatGood.{flat_is_good}
 use Rattle.align_laws.proofs.Kept.{dead_gone, may_go}
 use Rattle.align_laws.proofs.Prune.{IsPruned, cuts_of}
 use Rattle.align_laws.proofs.Soundness.{aligned_sound}
+use Rattle.plain_netlist.specs.Devices.{row_over, terminal_nets}
 use Rattle.plain_netlist.specs.Lists.{IsListed}
-use Rattle.plain_netlist.specs.Netlist.{Bulk, CallRow, Circuit, DeviceRow, Drain, Gate, IsCall, IsCircuit, IsDevice, Netlist, Pole, Source, on}
-use Rattle.plain_netlist.specs.Normal.{AreNumbered, appearances, terminal_nets}
+use Rattle.plain_netlist.specs.Netlist.{CallRow, Circuit, DeviceRow, IsCall, IsCircuit, IsDevice, Netlist}
+use Rattle.plain_netlist.specs.Normal.{AreNumbered, appearances}
 use Rattle.plain_netlist.proofs.Members.{either_side, from_all, position}
+use Rattle.plain_netlist.proofs.Rows.{over_terminal}
 use Rattle.report_file.proofs.Kept.{IsMadeOf, made_of}
 use Rattle.report_file.proofs.LeafPair.{IsLeaf, IsOnDevice}
 
@@ -28,12 +29,6 @@ appears total next (y ∷ ys) (inr h) x low high = elim (ℕ_discrete x next) [
   where
     later : (x ≡ next → ⊥) → suc next ≤ x
     later not = omega (arith, not, low)
-
-through_pole : (f : ℕ → ℕ) (pole : Pole) (row : DeviceRow) → on pole (row_through f row) ≡ f (on pole row)
-through_pole f Source row = refl
-through_pole f Gate row = refl
-through_pole f Drain row = refl
-through_pole f Bulk row = refl
 
 module _ (g o : Netlist) (w : Alignment) (a : IsAligned g o w) (only : HasOnlyKept o w) (k : ℕ) (c : Circuit) (is : IsCircuit o k c) (leaf : c.calls ≡ []) where
   made : IsMadeOf g w k c
@@ -53,14 +48,14 @@ module _ (g o : Netlist) (w : Alignment) (a : IsAligned g o w) (only : HasOnlyKe
       let none : slice_get [] e ≡ Some row = subst (λ (rs : List CallRow). slice_get rs e ≡ Some row) (ap (λ (y : Circuit). y.calls) (same_circuit x also) ∙ leaf) at in absurd cc
 
   -- a held net that a device has
-  from_device : (n j : ℕ) (row : DeviceRow) (pole : Pole) → IsDevice a.by.flat made.number j row → w.new made.number (on pole row) ≡ n → IsOnDevice c n
-  from_device n j row pole dev e =
-      let d = pruned.device j row dev in record {
+  from_device : (n j m : ℕ) (row : DeviceRow) → IsDevice a.by.flat made.number j row → IsListed m (terminal_nets row) → w.new made.number m ≡ n → IsOnDevice c n
+  from_device n j m row dev on e =
+      let d = pruned.device j row dev in
+      let other : DeviceRow = row_over (w.new made.number) row in record {
         device = j;
-        row = row_through (w.new made.number) row;
-        pole = pole;
-        there = subst (λ (x : Circuit). slice_get x.devices j ≡ Some (row_through (w.new made.number) row)) (same_circuit d.0 d.1) d.2;
-        is = through_pole (w.new made.number) pole row ∙ e;
+        row = other;
+        there = subst (λ (x : Circuit). slice_get x.devices j ≡ Some other) (same_circuit d.0 d.1) d.2;
+        is = subst (λ (x : ℕ). IsListed x (terminal_nets other)) e (over_terminal (w.new made.number) row m on);
       }
 
   of_pin : (n : ℕ) → IsListed n c.pins → IsOnDevice c n
@@ -68,21 +63,14 @@ module _ (g o : Netlist) (w : Alignment) (a : IsAligned g o w) (only : HasOnlyKe
       let p = position c.pins n h in
       let pin = pruned.pin_back p.0 n (subst (λ (m : ℕ). (x : Circuit) × IsCircuit o m x × (slice_get x.pins p.0 ≡ Some n)) (sym made.becomes) (c, is, p.1)) in
       elim ((a.by.cut_down.held made.number pin.1 made.kept).0 pin.3) [
-        | inl d ↦ from_device n d.0 d.1 d.2 d.3 (ap (w.new made.number) d.4 ∙ pin.4)
+        | inl d ↦ from_device n d.0 pin.1 d.1 d.2 d.3 pin.4
         | inr e ↦ absurd (let z = pruned.call e.0 e.1 e.4 e.5 in no_call ((cuts_of a.by.flat w).call made.number e.0) z.0 z.1)
       ]
-
-  of_terminal : (row : DeviceRow) (j n : ℕ) → slice_get c.devices j ≡ Some row → IsListed n (terminal_nets row) → IsOnDevice c n
-  of_terminal row j n at (inl e) = record { device = j; row = row; pole = Drain; there = at; is = sym e }
-  of_terminal row j n at (inr (inl e)) = record { device = j; row = row; pole = Gate; there = at; is = sym e }
-  of_terminal row j n at (inr (inr (inl e))) = record { device = j; row = row; pole = Source; there = at; is = sym e }
-  of_terminal row j n at (inr (inr (inr (inl e)))) = record { device = j; row = row; pole = Bulk; there = at; is = sym e }
-  of_terminal row j n at (inr (inr (inr (inr e)))) = absurd e
 
   of_device : (n : ℕ) → IsListed n (flat_map terminal_nets c.devices) → IsOnDevice c n
   of_device n h =
       let r = from_all terminal_nets c.devices n h in
-      let p = position c.devices r.0 r.1 in of_terminal r.0 p.0 n p.1 r.2
+      let p = position c.devices r.0 r.1 in record { device = p.0; row = r.0; there = p.1; is = r.2 }
 
   of_call : (n : ℕ) → IsListed n (flat_map (λ (r : CallRow). r.nets) c.calls) → IsOnDevice c n
   of_call n h = absurd (subst (λ (rs : List CallRow). IsListed n (flat_map (λ (r : CallRow). r.nets) rs)) leaf h)

@@ -5,21 +5,22 @@ use Rattle.std.specs.Prelude.{slice_index}
 use Rattle.std.proofs.lemmas.Option.{slice_get_within}
 use Rattle.match_laws.specs.Circuits.{IsCorrespondence, IsDeviceImage, IsOneToOne, Pair, Pairing, pin_name}
 use Rattle.plain_netlist.specs.Chains.{IsChain}
-use Rattle.plain_netlist.specs.Flats.{AreRowsAlike, Corresponds, Reversed, Row, expanded, row_at}
+use Rattle.plain_netlist.specs.Devices.{AreRowsAlike, Row, terminal_nets}
+use Rattle.plain_netlist.specs.Flats.{Corresponds, Reversed, expanded, row_at}
 use Rattle.plain_netlist.specs.Lists.{IsListed}
-use Rattle.plain_netlist.specs.Netlist.{Bulk, CallRow, Circuit, DeviceRow, Drain, Gate, HasDevice, InOneNet, IsCall, IsCircuit, IsEitherJoin, IsOnPin, IsTerminal, Joins, Netlist, Pole, Slot, Source, on, slot}
+use Rattle.plain_netlist.specs.Netlist.{CallRow, Circuit, DeviceRow, HasDevice, InOneNet, IsCall, IsCircuit, IsEitherJoin, IsOnPin, IsTerminal, Joins, Netlist, Slot, slot}
 use Rattle.plain_netlist.specs.Sound.{AreNetsThere}
 use Rattle.plain_netlist.proofs.Alike.{reversed, terminal_image}
 use Rattle.plain_netlist.proofs.Members.{listed, position}
+use Rattle.plain_netlist.proofs.Rows.{rows_under, rows_where}
 use Rattle.report_file.proofs.Choosing.{IsChosen, choose, one_to_one}
 
 -- a device of the circuit has a terminal on net n
 pub record IsOnDevice (c : Circuit) (n : ℕ) : Type 0 where
   pub device : ℕ
   pub row : DeviceRow
-  pub pole : Pole
   pub there : slice_get c.devices device ≡ Some row
-  pub is : on pole row ≡ n
+  pub is : IsListed n (terminal_nets row)
 
 -- circuit k is this one, which calls nothing, and each of its nets is on a device
 pub record IsLeaf (nl : Netlist) (k : ℕ) (c : Circuit) : Type 0 where
@@ -73,21 +74,21 @@ module _ (nl : Netlist) (k : ℕ) (c : Circuit) (leaf : IsLeaf nl k c) where
   pin_on n h = let p = position c.pins n h in (p.0, n, (c, leaf.circuit, p.1), self_slot (slot [] n))
 
   -- the net of a terminal is there
-  net_there : (j : ℕ) (row : DeviceRow) (pole : Pole) → slice_get c.devices j ≡ Some row → on pole row < length c.nets
-  net_there j row pole at =
-      let h = leaf.within.devices k j row pole (c, leaf.circuit, at) in
+  net_there : (j n : ℕ) (row : DeviceRow) → slice_get c.devices j ≡ Some row → IsListed n (terminal_nets row) → n < length c.nets
+  net_there j n row at on =
+      let h = leaf.within.devices k j n row (c, leaf.circuit, at) on in
       let there = h.1 in
       let also = leaf.circuit in
-      let same : h.0 ≡ c = cc in subst (λ (y : Circuit). on pole row < length y.nets) same h.2
+      let same : h.0 ≡ c = cc in subst (λ (y : Circuit). n < length y.nets) same h.2
 
   terminal : (n : ℕ) → n < length c.nets → IsTerminal nl k (slot [] n)
-  terminal n l = let h = leaf.held n l in record { device = h.device; row = h.row; pole = h.pole; has = has_device h.device h.row h.there; on = h.is }
+  terminal n l = let h = leaf.held n l in record { device = h.device; row = h.row; has = has_device h.device h.row h.there; on = h.is }
 
   -- a terminal's slot is a net of the circuit
   own_slot : (a : Slot) → IsTerminal nl k a → (a ≡ slot [] a.net) × (a.net < length c.nets)
   own_slot a h =
       let o = own_device a.path h.device h.row h.has in
-      (ap (λ (p : List ℕ). slot p a.net) o.0, subst (λ (n : ℕ). n < length c.nets) h.on (net_there h.device h.row h.pole o.1))
+      (ap (λ (p : List ℕ). slot p a.net) o.0, net_there h.device a.net h.row o.1 h.on)
 
 module _ (left right : Netlist) (k : ℕ) (c d : Circuit) (l : IsLeaf left k c) (r : IsLeaf right k d) (D N : Slot → Slot → Type 0) (h : Corresponds (expanded left k) (expanded right k) D N) where
   -- device x of the right circuit is that of device j
@@ -163,17 +164,8 @@ module _ (left right : Netlist) (k : ℕ) (c d : Circuit) (l : IsLeaf left k c) 
         let one : g.0 ≡ row = (let a = g.2 in let z : Some g.0 ≡ Some row = sym a ∙ at in cc) in
         let two : g.1 ≡ other = (let a = g.3 in let z : Some g.1 ≡ Some other = sym a ∙ there in cc) in
         let alike = subst (λ (y : DeviceRow). AreRowsAlike N (row_at [] row) (row_at [] y)) two (subst (λ (y : DeviceRow). AreRowsAlike N (row_at [] y) (row_at [] g.1)) one g.5) in
-        record {
-          class = alike.class;
-          length = alike.length;
-          width = alike.width;
-          gate = on_net row.gate other.gate (net_there left k c l j row Gate at) alike.gate;
-          bulk = on_net row.bulk other.bulk (net_there left k c l j row Bulk at) alike.bulk;
-          channel = elim alike.channel [
-            | inl e ↦ inl (on_net row.source other.source (net_there left k c l j row Source at) e.0, on_net row.drain other.drain (net_there left k c l j row Drain at) e.1)
-            | inr e ↦ inr (on_net row.source other.drain (net_there left k c l j row Source at) e.0, on_net row.drain other.source (net_there left k c l j row Drain at) e.1)
-          ];
-        }
+        rows_where (λ n x. N (slot [] n) (slot [] x)) (λ n x. slice_index nets n ≡ x) row other (λ n x on a. on_net n x (net_there left k c l j n row at on) a)
+        (rows_under N (slot []) (slot []) row other alike)
 
     corresponds : (p : Pair) → p.left ≡ c → p.right ≡ d → ((n x : ℕ) → n < length c.nets → x < length d.nets → N (slot [] n) (slot [] x) → pin_name p.told c n ≡ pin_name p.told d x) → IsCorrespondence p (record { nets = nets; devices = devices; calls = [] })
     corresponds p lp rp named = record {

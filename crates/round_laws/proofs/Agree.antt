@@ -9,7 +9,7 @@ use Rattle.std.proofs.Math.Path.{fun_ext}
 use Rattle.std.proofs.lemmas.List.Sums.{sum_by-cons}
 use Rattle.std.proofs.lemmas.Bool.Decides.{Decides-eqb}
 use Rattle.plain_netlist.specs.Lists.{IsListed}
-use Rattle.round_laws.specs.Web.{Port, Channel, Gate, Bulk, Pin, same_port, End, Web, fits, same_ends, agree, IsWeb, IsEven, IsWebMap, Guess, under, alike_under, names, Keeps, IsRefuted}
+use Rattle.round_laws.specs.Web.{Port, EitherEnd, Other, Pin, same_port, End, Web, fits, same_ends, agree, IsWeb, IsEven, IsWebMap, Guess, under, alike_under, names, Keeps, IsRefuted}
 
 -- counts
 pub count-cons : {X : Type 0} (p : X → Bool) (x : X) (xs : List X) → count_by p (x ∷ xs) ≡ cond (p x) 1 0 + count_by p xs
@@ -39,9 +39,8 @@ second false b p = absurd (true≢false (sym p))
 
 -- ports
 pub port_same : (p q : Port) → Decides (same_port p q) (p ≡ q)
-port_same Channel Channel = ((λ _. refl), (λ _. refl))
-port_same Gate Gate = ((λ _. refl), (λ _. refl))
-port_same Bulk Bulk = ((λ _. refl), (λ _. refl))
+port_same EitherEnd EitherEnd = ((λ _. refl), (λ _. refl))
+port_same (Other k) (Other j) = ((λ h. ap Other ((Decides-eqb k j).0 h)), (λ h. let e : k ≡ j = cc in (Decides-eqb k j).1 e))
 port_same (Pin p i) (Pin q j) = (
   (λ h. let a : p ≡ q = (Decides-eqb p q).0 (first _ _ h) in let b : i ≡ j = (Decides-eqb i j).0 (second _ _ h) in cc),
   (λ h. and_from _ _ ((Decides-eqb p q).1 cc) ((Decides-eqb i j).1 cc)),

@@ -7,18 +7,17 @@ use Rattle.plain_netlist.specs.Lists.{IsListed}
 use Rattle.std.specs.Cmp.{IsEquivalence}
 use Rattle.std.specs.Bool.{beq}
 
--- the kind of a terminal: source or drain, gate, bulk, or a pin of a called pair
+-- the kind of a terminal: either end of a device, its other terminal of this place, or a pin of a
+-- called pair
 pub data Port : Type 0 where
-  Channel : Port
-  Gate : Port
-  Bulk : Port
+  EitherEnd : Port
+  Other : (place : ℕ) → Port
   Pin : (pair number : ℕ) → Port
 
 -- whether two terminals are of one kind
 abbrev pub same_port : Port → Port → Bool
-same_port Channel Channel = true
-same_port Gate Gate = true
-same_port Bulk Bulk = true
+same_port EitherEnd EitherEnd = true
+same_port (Other k) (Other j) = k == j
 same_port (Pin p i) (Pin q j) = (p == q) && (i == j)
 same_port p q = false
 

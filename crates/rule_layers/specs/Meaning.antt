@@ -7,10 +7,10 @@ use Rattle.std.specs.Str.{bytes_eq}
 use Rattle.net_names.specs.Folding.{folded_bytes}
 use Rattle.geo_base.specs.declared.layer.LayerKey.{LayerKey}
 use Rattle.geo_base.specs.declared.layer.Op.TheVariants.{And}
-use Rattle.plain_netlist.specs.Classes.{resistor_class, diode_class}
+use Rattle.plain_netlist.specs.declared.kinds.DeviceKind.TheVariants.{Mos4, ResistorWithBulk, Diode}
 use Rattle.flat_layout.specs.Layers.{Formula, Empty, Binary}
 use Rattle.flat_layout.specs.Regions.{Wiring, Line, Label}
-use Rattle.flat_layout.specs.Gates.{Rule, Mos, Resistor, Diode}
+use Rattle.flat_layout.specs.Gates.{Rule}
 use Rattle.rule_text.specs.declared.rules.LayerForm.{LayerForm}
 use Rattle.rule_text.specs.declared.rules.LayerForm.TheVariants as form
 use Rattle.rule_text.specs.declared.rules.LayerRule.{LayerRule}
@@ -82,7 +82,7 @@ wiring_of r = record {
 abbrev pub device_rule : Rules → MosRule → Rule
 device_rule r m = record {
   class = folded_bytes m.class;
-  kind = Mos;
+  kind = Mos4;
   sd = get_or (formulas r.names) m.sd Empty;
   gate = get_or (formulas r.names) m.g Empty;
   well = get_or (formulas r.names) m.w Empty;
@@ -91,12 +91,13 @@ device_rule r m = record {
   tb = m.tb;
 }
 
--- that of a further device. A resistor has its gate on its bulk; a diode's regions are the squares
--- in both layers, its anode is the ends' conductor, its cathode the bulk's
+-- that of a further device: its gate's conductor, of which it says nothing, is its bulk's. A
+-- diode's regions are the squares in both layers, its anode is the ends' conductor, its cathode the
+-- bulk's
 abbrev pub more_rule : Rules → MoreRule → Rule
 more_rule r (more.Resistor class n c w ta tw) = record {
-  class = resistor_class (folded_bytes class);
-  kind = Resistor;
+  class = folded_bytes class;
+  kind = ResistorWithBulk;
   sd = get_or (formulas r.names) c Empty;
   gate = get_or (formulas r.names) n Empty;
   well = get_or (formulas r.names) w Empty;
@@ -105,7 +106,7 @@ more_rule r (more.Resistor class n c w ta tw) = record {
   tb = tw;
 }
 more_rule r (more.Diode class p n ta tc) = record {
-  class = diode_class (folded_bytes class);
+  class = folded_bytes class;
   kind = Diode;
   sd = Empty;
   gate = Binary And (get_or (formulas r.names) p Empty) (get_or (formulas r.names) n Empty);

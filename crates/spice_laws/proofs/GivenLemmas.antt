@@ -1,5 +1,5 @@
 -- The names of circuits and nets have no small letters, as what they are made from has none.
-use Rattle.std.proofs.Common.{◌≡◌, inl, inr, ℕ, zero, suc, ◌+◌, ◌/◌, ◌%◌, ◌<◌, ◌==◌, Bool, false, List, [], ◌∷◌, ◌++◌, map, length, Some, refl, sym, ap, subst, ◌∙◌, arith}
+use Rattle.std.proofs.Common.{◌≡◌, inl, inr, ℕ, zero, suc, ◌+◌, ◌/◌, ◌%◌, ◌<◌, ◌==◌, Bool, true, false, List, [], ◌∷◌, ◌++◌, map, length, Some, refl, sym, ap, subst, ◌∙◌, arith}
 use Rattle.std.proofs.lemmas.Bool.{cases_Bool}
 use Rattle.std.specs.Prelude.{decimal, get_or, nat_lt, slice_get}
 use Rattle.std.specs.List.{AllByRecursion}
@@ -9,22 +9,22 @@ use Rattle.std.proofs.lemmas.List.{map-append}
 use Rattle.std.proofs.lemmas.Option.{none-some, same_Some}
 use Rattle.net_names.specs.Folding.{folded_byte, folded_bytes}
 use Rattle.flat_laws.proofs.Planned.{at_true, item_at}
-use Rattle.flat_laws.proofs.Poles.{equal_poles}
-use Rattle.flat_laws.specs.NetlistLaws.{HasEqualPoles}
+use Rattle.flat_laws.proofs.Devices.{device_of_rule}
 use Rattle.flat_layout.specs.Circuits.{IsCircuitOf, cell_name, drawn_nets}
 use Rattle.flat_layout.specs.Expanded.{AreTablesRight, CircuitTables}
-use Rattle.flat_layout.specs.Gates.{Kind, Mos, Resistor, Diode, Rule}
-use Rattle.flat_layout.specs.GateTables.{good_gates}
+use Rattle.flat_layout.specs.Gates.{Rule}
 use Rattle.flat_layout.specs.Layout.{Design}
 use Rattle.flat_layout.specs.Names.{apart_names, net_needs, net_ending, circuit_needs, circuit_ending}
 use Rattle.flat_layout.specs.Nets.{Tables}
 use Rattle.flat_layout.specs.Regions.{Wiring}
+use Rattle.plain_netlist.specs.declared.kinds.DeviceKind.{DeviceKind}
+use Rattle.plain_netlist.specs.Devices.{IsFormed}
 use Rattle.plain_netlist.specs.Lists.{IsListed}
 use Rattle.plain_netlist.specs.Netlist.{Circuit, DeviceRow, Netlist, IsCircuit, IsDevice}
 use Rattle.plain_netlist.proofs.Members.{listed, position}
-use Rattle.spice_laws.specs.Extracted.{ExtractedCardsLaw, ExtractedWritableLaw, card_kind}
+use Rattle.spice_laws.specs.Extracted.{ExtractedFormedLaw, ExtractedWritableLaw}
 use Rattle.spice_laws.specs.Spelled.{IsByteName, IsSpelledCircuit, IsSpelledDevice}
-use Rattle.spice_text.specs.Cards.{FitsCard, kind_of, shown_class}
+use Rattle.spice_rows.specs.Rows.{is_class}
 use Rattle.spice_text.specs.Laws.{IsName}
 
 -- ---- letters
@@ -105,30 +105,25 @@ cell_at d w t g nl rules unit level h n c is =
     let r = item_at nl.circuits g.cells n c (sym h.circuits.count) is in
     (r.0, listed g.cells n r.0 r.1, h.circuits.each n r.0 c r.1 is)
 
--- a device of a rule fits its card
-card_fits : (k : Kind) (row : DeviceRow) → HasEqualPoles k row → 0 < length (shown_class (card_kind k) row.class) → FitsCard (card_kind k) row
-card_fits Mos row equal some = tt
-card_fits Resistor row equal some = (equal, some)
-card_fits Diode row equal some = (equal.0, equal.1, some)
-
-pub cards : ExtractedCardsLaw
-cards d w t g nl rules unit level h classed n c is i row at =
+-- the rule of a device
+ruled : (d : Design) (w : Wiring) (t : Tables) (g : CircuitTables) (nl : Netlist) (rules : List Rule) (unit : ℕ) (level : ℕ → ℕ) → AreTablesRight d w t g nl rules unit level → (n i : ℕ) (row : DeviceRow) → IsDevice nl n i row
+    → (r : ℕ) × (u : Rule) × (slice_get rules r ≡ Some u) × (row.kind ≡ u.kind) × (row.class ≡ u.class) × IsFormed row
+ruled d w t g nl rules unit level h n i row (c, is, at) =
     let r = item_at nl.circuits g.cells n c (sym h.circuits.count) is in
     let reached = ((h.cells.each r.0).0 (listed g.cells n r.0 r.1)).0 in
-    let p = equal_poles d w t g nl rules unit level h r.0 n i row reached r.1 (c, is, at) in
-    let u = classed p.0 p.1 p.2 in
-    let shows : kind_of row.class ≡ card_kind p.1.kind = ap kind_of p.3 ∙ u.shows in
-    let some : 0 < length (shown_class (card_kind p.1.kind) row.class) = subst (λ (v : List ℕ). 0 < length (shown_class (card_kind p.1.kind) v)) (sym p.3) u.some in
-    subst (λ k. FitsCard k row) (sym shows) (card_fits p.1.kind row p.4 some)
+    device_of_rule d w t g nl rules unit level h r.0 n i row reached r.1 (c, is, at)
+
+pub formed : ExtractedFormedLaw
+formed d w t g nl rules unit level h n i row dev = (ruled d w t g nl rules unit level h n i row dev).5
 
 pub writable : ExtractedWritableLaw
 writable d w t g nl rules unit level h classed spelled = record {
   circuits = λ n c is. name_of c.name (circuit n c is).name (named n c (cell_at d w t g nl rules unit level h n c is));
   nets = λ n a c name is at. name_of name (each_at IsByteName c.nets a name (circuit n c is).nets at) (net n a c name is at (cell_at d w t g nl rules unit level h n c is));
-  classes = λ n i row dev. name_of row.class (device n i row dev).class (class n i row dev.0 dev.1 dev.2 (cell_at d w t g nl rules unit level h n dev.0 dev.1));
-  cards = cards d w t g nl rules unit level h classed;
-  lengths = λ n i row dev. (device n i row dev).length;
-  widths = λ n i row dev. (device n i row dev).width;
+  classes = λ n i row dev. name_of row.class (device n i row dev).class (class n i row dev);
+  models = model;
+  formed = formed d w t g nl rules unit level h;
+  sizes = λ n i row dev. (device n i row dev).sizes;
 }
   where
     circuit : (n : ℕ) (c : Circuit) → IsCircuit nl n c → IsSpelledCircuit c
@@ -153,10 +148,10 @@ writable d w t g nl rules unit level h classed spelled = record {
         kept net_needs net_ending [] 1 (map (λ (y : ℕ). folded_bytes (base y)) (drawn_nets (g.drawn f.0)))
         (bases_fixed base (drawn_nets (g.drawn f.0))) net_ends place.0 name same
 
-    class : (n i : ℕ) (row : DeviceRow) (c : Circuit) → IsCircuit nl n c → slice_get c.devices i ≡ Some row
-        → ((cell : ℕ) × IsListed cell g.cells × IsCircuitOf d t g.gates g.pins g.drawn rules unit g.cells n cell (g.parts cell) c) → IsFixed row.class
-    class n i row c is at f =
-        let has = f.2.has_devices in
-        let gate = item_at c.devices (good_gates (g.gates f.0)) i row (sym has.count) at in
-        let one = has.each i gate.0 row gate.1 at in
-        subst IsFixed (sym one.class) (classed gate.0.at.rule one.rule one.is).folded
+    class : (n i : ℕ) (row : DeviceRow) → IsDevice nl n i row → IsFixed row.class
+    class n i row dev = let r = ruled d w t g nl rules unit level h n i row dev in subst IsFixed (sym r.4) (classed r.0 r.1 r.2).folded
+
+    model : (n i : ℕ) (row : DeviceRow) → IsDevice nl n i row → is_class row.kind row.class ≡ true
+    model n i row dev =
+        let r = ruled d w t g nl rules unit level h n i row dev in
+        ap (λ (k : DeviceKind). is_class k row.class) r.3 ∙ ap (is_class r.1.kind) r.4 ∙ (classed r.0 r.1 r.2).model

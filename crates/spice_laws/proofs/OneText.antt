@@ -11,8 +11,9 @@ use Rattle.fixed_num.proofs.Digits.{digit_bounds, digit_worth}
 use Rattle.fixed_num.proofs.Stripped.{ten_positive}
 use Rattle.plain_netlist.specs.Netlist.{Circuit, DeviceRow}
 use Rattle.spice_laws.specs.Once.{OneTextLaw}
-use Rattle.spice_rows.specs.Params.{Kind, Transistor, Resistor, Diode}
-use Rattle.spice_text.specs.Cards.{kind_of}
+use Rattle.plain_netlist.specs.declared.kinds.DeviceKind.{DeviceKind}
+use Rattle.plain_netlist.specs.declared.kinds.DeviceKind.TheVariants.{Mos4, ResistorWithBulk, Diode}
+use Rattle.spice_text.specs.Cards.{first_size, second_size}
 use Rattle.spice_text.specs.Written.{AreOneByOne, AreSizes, AreTexts, IsAreaText, IsCircuitText, IsDeviceText, IsLengthText, circuit_text, device_text}
 
 -- ---- digits behind the point
@@ -170,18 +171,17 @@ one_length v a b (m, h, e) (n, g, f) = e ∙ ap (λ (t : List ℕ). t ++ codes "
 one_area : (v : ℕ) (a b : List ℕ) → IsAreaText v a → IsAreaText v b → a ≡ b
 one_area v a b (m, h, e) (n, g, f) = e ∙ ap (λ (t : List ℕ). t ++ codes "P") (one_over 12 v m n h g) ∙ sym f
 
-one_sizes : (kind : Kind) (d : DeviceRow) (x y u v : List ℕ) → AreSizes kind d x y → AreSizes kind d u v → (x ≡ u) × (y ≡ v)
-one_sizes Transistor d x y u v h g = (one_length d.length x u h.0 g.0, one_length d.width y v h.1 g.1)
-one_sizes Resistor d x y u v h g = (one_length d.length x u h.0 g.0, one_length d.width y v h.1 g.1)
-one_sizes Diode d x y u v h g = (one_area d.width x u h.0 g.0, one_length d.length y v h.1 g.1)
+one_sizes : (kind : DeviceKind) (d : DeviceRow) (x y u v : List ℕ) → AreSizes kind d x y → AreSizes kind d u v → (x ≡ u) × (y ≡ v)
+one_sizes Mos4 d x y u v h g = (one_length (first_size d) x u h.0 g.0, one_length (second_size d) y v h.1 g.1)
+one_sizes ResistorWithBulk d x y u v h g = (one_length (first_size d) x u h.0 g.0, one_length (second_size d) y v h.1 g.1)
+one_sizes Diode d x y u v h g = (one_area (second_size d) x u h.0 g.0, one_length (first_size d) y v h.1 g.1)
 
 -- ---- lines
 
 one_device : (nets : List (List ℕ)) (k : ℕ) (d : DeviceRow) (a b : List ℕ) → IsDeviceText nets k d a → IsDeviceText nets k d b → a ≡ b
 one_device nets k d a b (x, y, sizes, e) (u, v, other, f) =
-    let kind = kind_of d.class in
-    let same = one_sizes kind d x y u v sizes other in
-    e ∙ ap (λ (t : List ℕ). device_text kind nets k d t y) same.0 ∙ ap (λ (t : List ℕ). device_text kind nets k d u t) same.1 ∙ sym f
+    let same = one_sizes d.kind d x y u v sizes other in
+    e ∙ ap (λ (t : List ℕ). device_text nets k d t y) same.0 ∙ ap (λ (t : List ℕ). device_text nets k d u t) same.1 ∙ sym f
 
 one_texts : {A : Type 0} (P : ℕ → A → List ℕ → Type 0) → ((k : ℕ) (x : A) (a b : List ℕ) → P k x a → P k x b → a ≡ b) → (k : ℕ) (xs : List A) (a b : List ℕ) → AreTexts P k xs a → AreTexts P k xs b → a ≡ b
 one_texts P one k [] a b h g = h ∙ sym g

@@ -1,8 +1,7 @@
 -- The netlist of a layout's circuits can be written, and what is written means it.
-use Rattle.std.specs.Prelude.{◌≡◌, ◌<◌, ℕ, List, None, Some, length, slice_get}
+use Rattle.std.specs.Prelude.{◌≡◌, ℕ, true, List, None, Some, slice_get}
 use Rattle.flat_layout.specs.Expanded.{AreTablesRight, CircuitTables}
 use Rattle.flat_layout.specs.Gates.{Rule}
-use Rattle.flat_layout.specs.Gates as flat
 use Rattle.flat_layout.specs.Layout.{Design}
 use Rattle.flat_layout.specs.Nets.{Tables}
 use Rattle.flat_layout.specs.Regions.{Wiring}
@@ -10,32 +9,25 @@ use Rattle.net_names.specs.Folding.{folded_bytes}
 use Rattle.plain_netlist.specs.Netlist.{Netlist}
 use Rattle.plain_netlist.specs.Sound.{IsSoundNetlist}
 use Rattle.spice_laws.specs.Spelled.{IsSpelled}
-use Rattle.spice_rows.specs.Params.{Kind, Transistor, Resistor, Diode}
-use Rattle.spice_text.specs.Cards.{FitCards, kind_of, shown_class}
+use Rattle.spice_rows.specs.Rows.{is_class}
+use Rattle.spice_text.specs.Cards.{AreFormed}
 use Rattle.spice_text.specs.Laws.{IsWritable}
 use Rattle.spice_text.specs.Means.{Means}
 use Rattle.spice_text.specs.Written.{IsWritten}
 
--- the kind of card that a rule's devices have
-abbrev pub card_kind : flat.Kind → Kind
-card_kind flat.Mos = Transistor
-card_kind flat.Resistor = Resistor
-card_kind flat.Diode = Diode
-
--- a rule's class has no small letter, it shows the rule's kind, and has a byte behind what shows it
+-- a rule's class has no small letter, and is one that cards of its kind have
 pub record IsClassed (u : Rule) : Type 0 where
   pub folded : folded_bytes u.class ≡ u.class
-  pub shows : kind_of u.class ≡ card_kind u.kind
-  pub some : 0 < length (shown_class (card_kind u.kind) u.class)
+  pub model : is_class u.kind u.class ≡ true
 
 abbrev pub AreClassed : List Rule → Type 0
 AreClassed rules = (r : ℕ) (u : Rule) → slice_get rules r ≡ Some u → IsClassed u
 
--- each device of a layout's netlist is one that a card can say
-abbrev pub ExtractedCardsLaw : Type 0
-ExtractedCardsLaw = (d : Design) (w : Wiring) (t : Tables) (g : CircuitTables) (nl : Netlist)
+-- each device of a layout's netlist has the terminals and sizes of its kind
+abbrev pub ExtractedFormedLaw : Type 0
+ExtractedFormedLaw = (d : Design) (w : Wiring) (t : Tables) (g : CircuitTables) (nl : Netlist)
     (rules : List Rule) (unit : ℕ) (level : ℕ → ℕ) → AreTablesRight d w t g nl rules unit level
-    → AreClassed rules → FitCards nl
+    → AreFormed nl
 
 abbrev pub ExtractedWritableLaw : Type 0
 ExtractedWritableLaw = (d : Design) (w : Wiring) (t : Tables) (g : CircuitTables) (nl : Netlist)

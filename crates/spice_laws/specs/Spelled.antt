@@ -2,6 +2,7 @@
 use Rattle.std.specs.Prelude.{ℕ, ◌<◌, ◌^◌, List, length}
 use Rattle.std.specs.List.{All, AllByRecursion}
 use Rattle.plain_netlist.specs.Netlist.{Circuit, DeviceRow, Netlist}
+use Rattle.spice_text.specs.Cards.{first_size, second_size}
 
 -- one byte or more
 pub record IsByteName (name : List ℕ) : Type 0 where
@@ -11,8 +12,7 @@ pub record IsByteName (name : List ℕ) : Type 0 where
 -- sizes are of 128 bits
 pub record IsSpelledDevice (d : DeviceRow) : Type 0 where
   pub class : IsByteName d.class
-  pub length : d.length < 2 ^ 128
-  pub width : d.width < 2 ^ 128
+  pub sizes : (first_size d < 2 ^ 128) × (second_size d < 2 ^ 128)
 
 pub record IsSpelledCircuit (c : Circuit) : Type 0 where
   pub name : IsByteName c.name

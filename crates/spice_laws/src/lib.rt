@@ -4,7 +4,7 @@
 //! netlist for what its types say of it.
 #![tactic(auto)]
 
-ghost use Rattle.spice_laws.specs.Extracted.{ExtractedCardsLaw, ExtractedWritableLaw};
+ghost use Rattle.spice_laws.specs.Extracted.{ExtractedFormedLaw, ExtractedWritableLaw};
 ghost use Rattle.spice_laws.specs.Extracted.{ExtractedMeansLaw};
 ghost use Rattle.spice_laws.specs.Once.{OneTextLaw};
 
@@ -15,9 +15,9 @@ use spice_text::written_laws;
 use table_laws::sound_netlist;
 
 /// What is written of a layout's circuits means them, cell by cell, where the classes of the device
-/// rules are folded and show their kinds.
+/// rules are folded and ones that cards of their kinds have.
 pub fn extracted_text()
-    ensures cards { ExtractedCardsLaw }
+    ensures formed { ExtractedFormedLaw }
     ensures writable { ExtractedWritableLaw }
     ensures means { ExtractedMeansLaw }
 {

@@ -1,11 +1,12 @@
 //! That a netlist can be spelled, as its types say.
 
-ghost use Rattle.std.specs.Prelude.{map};
+ghost use Rattle.std.specs.Prelude.{◌<◌, ◌^◌, map};
 ghost use Rattle.std.specs.List.{AllByRecursion};
 ghost use Rattle.net_model.specs.Rows.{plain_circuit, plain_device, plain_netlist};
 ghost use Rattle.spice_laws.specs.Spelled.{IsByteName, IsSpelled};
 ghost use Rattle.spice_laws.specs.Spelled.{IsSpelledCircuit, IsSpelledDevice};
 
+use fixed_num::Femto;
 use net_model::{Circuit, DeviceRow, Netlist};
 use net_names::Name;
 
@@ -26,12 +27,19 @@ fn names_spelled(names: &[Name])
     }
 }
 
+fn size_spelled(size: Femto)
+    ensures { size.0 < 2 ^ 128 }
+{
+    let _worth = size.0;
+}
+
 fn device_spelled(device: &DeviceRow)
     ensures { IsSpelledDevice (plain_device device.now) }
 {
     name_spelled(&device.class);
-    let _length = device.length.0;
-    let _width = device.width.0;
+    let [first, second] = device.sizes;
+    size_spelled(first);
+    size_spelled(second);
 }
 
 fn devices_spelled(devices: &[DeviceRow])

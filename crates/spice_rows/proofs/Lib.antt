@@ -1,4 +1,5 @@
 pub mod NameLemmas
+pub mod Formed
 pub mod DeviceRows
 pub mod NumberLemmas
 pub mod ValueLemmas

@@ -1,11 +1,13 @@
 -- The parameters that cards may have.
-use Rattle.std.specs.Prelude.{ℕ, Bool, true, false, ◌==◌, ◌&&◌, ◌||◌, not, nat_lt, List, [], ◌∷◌}
+use Rattle.std.specs.Prelude.{ℕ, Bool, ◌==◌, ◌&&◌, ◌||◌, not, nat_lt, List, [], ◌∷◌}
 use Rattle.std.specs.Prelude.{length, if◌then◌else◌, codes}
 use Rattle.std.specs.Char.{is_ascii_digit}
 use Rattle.std.specs.List.{count_by, list_all}
 use Rattle.std.specs.Str.{bytes_eq}
 use Rattle.std.specs.Str.Parse.{digits_value}
+use Rattle.plain_netlist.specs.declared.kinds.DeviceKind.{DeviceKind}
 use Rattle.spice_cards.specs.Parts.{Param}
+use Rattle.spice_rows.specs.Kinds.{first_key, second_key, may_say_more}
 use Rattle.spice_rows.specs.Names.{is_text}
 
 -- no escape is read in a key
@@ -19,29 +21,6 @@ is_once key ps = count_by (is_key key) ps == 1
 abbrev pub is_one : Param → Bool
 is_one p = is_key (codes "M") p && bytes_eq p.value (codes "1")
 
--- the kinds of devices that cards have
-pub data Kind : Type 0 where
-  Transistor : Kind
-  Resistor : Kind
-  Diode : Kind
-
-abbrev pub is_transistor : Kind → Bool
-is_transistor Transistor = true
-is_transistor Resistor = false
-is_transistor Diode = false
-
-abbrev pub is_diode : Kind → Bool
-is_diode Transistor = false
-is_diode Resistor = false
-is_diode Diode = true
-
--- a diode has a perimeter in the place of a length, and an area in that of a width
-abbrev pub length_key : Kind → List ℕ
-length_key kind = if is_diode kind then codes "P" else codes "L"
-
-abbrev pub width_key : Kind → List ℕ
-width_key kind = if is_diode kind then codes "A" else codes "W"
-
 -- areas, perimeters, squares and fingers of a transistor say nothing of the netlist
 abbrev pub is_passed_key : List ℕ → Bool
 is_passed_key key =
@@ -49,10 +28,10 @@ is_passed_key key =
     || is_text (codes "PD") key || is_text (codes "NRD") key || is_text (codes "NRS") key
     || is_text (codes "NF") key
 
-abbrev pub is_device_key : Kind → List ℕ → Bool
+abbrev pub is_device_key : DeviceKind → List ℕ → Bool
 is_device_key kind key =
-    is_text (length_key kind) key || is_text (width_key kind) key
-    || (is_transistor kind && is_passed_key key)
+    is_text (first_key kind ∷ []) key || is_text (second_key kind ∷ []) key
+    || (may_say_more kind && is_passed_key key)
 
 -- one to four digits of a number from 1 to 1,000
 abbrev pub is_count : List ℕ → Bool
@@ -61,7 +40,7 @@ is_count text =
     && nat_lt (digits_value 10 text) 1001
 
 -- one that a device of the kind can't have, or M that is no such number
-abbrev pub is_refused : Kind → Param → Bool
+abbrev pub is_refused : DeviceKind → Param → Bool
 is_refused kind p =
     if is_key (codes "M") p then not (is_count p.value) else not (is_device_key kind p.key)
 

@@ -1,31 +1,28 @@
 -- What a card says behind the cards before it, or its first fault. In each row a form that doesn't
 -- fit comes before a parameter that can't be taken, and that before a value that is none.
-use Rattle.std.specs.Prelude.{ℕ, Bool, true, false, ◌==◌, ◌&&◌, ◌||◌, not, List, [], ◌∷◌}
-use Rattle.std.specs.Prelude.{slice_index, Option, Some, None, Result, Ok, Err, if◌then◌else◌}
-use Rattle.std.specs.Prelude.{codes}
+use Rattle.std.specs.Prelude.{ℕ, ◌+◌, Bool, true, false, ◌==◌, ◌&&◌, ◌||◌, not, List, [], ◌∷◌}
+use Rattle.std.specs.Prelude.{length, slice_index, Option, Some, None, Result, Ok, Err}
+use Rattle.std.specs.Prelude.{codes, slice_get, if◌then◌else◌}
 use Rattle.std.specs.List.{list_any}
 use Rattle.fixed_num.specs.declared.femto.ValueFault.{ValueFault}
 use Rattle.net_names.specs.Folding.{folded_byte}
 use Rattle.spice_cards.specs.Tokens.{Token, Word, Equals}
 use Rattle.spice_cards.specs.Parts.{Param, words_of, behind_words, params_of}
 use Rattle.spice_rows.specs.Names.{names_of, are_apart, is_text}
-use Rattle.plain_netlist.specs.Classes.{resistor_class, diode_class, is_further_class}
-use Rattle.spice_rows.specs.Params.{Kind, Transistor, Resistor, Diode, copies_of, is_once, is_one}
-use Rattle.spice_rows.specs.Params.{is_refused, length_key, width_key}
-use Rattle.spice_rows.specs.Sizes.{Limits, Sizes, sizes_of}
+use Rattle.plain_netlist.specs.declared.kinds.DeviceKind.{DeviceKind}
+use Rattle.plain_netlist.specs.declared.kinds.DeviceKind.TheVariants.{Mos4, ResistorWithBulk, Diode}
+use Rattle.plain_netlist.specs.Kinds.{terminal_count}
+use Rattle.plain_netlist.specs.Devices.{Row, NoEnds, Both}
+use Rattle.spice_rows.specs.Kinds.{first_key, letter, second_key}
+use Rattle.spice_rows.specs.Params.{copies_of, is_once, is_one, is_refused}
+use Rattle.spice_rows.specs.Sizes.{Limits, sizes_of}
 use Rattle.spice_rows.specs.declared.fault.SpiceFault.{SpiceFault}
 use Rattle.spice_rows.specs.declared.fault.SpiceFault.TheVariants.{UnknownCard, BadLine}
 use Rattle.spice_rows.specs.declared.fault.SpiceFault.TheVariants.{ParameterRefused, Value}
 
--- a device as its card names it, by the terminals of a transistor
-pub record DeviceCard : Type 0 where
-  pub drain : List ℕ
-  pub gate : List ℕ
-  pub source : List ℕ
-  pub bulk : List ℕ
-  pub class : List ℕ
-  pub length : ℕ
-  pub width : ℕ
+-- a device over the names of nets
+abbrev pub DeviceCard : Type 0
+DeviceCard = Row (List ℕ)
 
 -- a call as its card names it, with the card's line
 pub record CallCard : Type 0 where
@@ -45,46 +42,68 @@ pub data CardRow : Type 0 where
 
 -- ---- rows, by the names or words behind the first word, and the parameters
 
--- the device between these nets
-abbrev pub device_card : List ℕ → List ℕ → List ℕ → List ℕ → List ℕ → Sizes → DeviceCard
-device_card drain gate source bulk class sizes = record {
-  drain = drain;
-  gate = gate;
-  source = source;
-  bulk = bulk;
+-- `drain gate source bulk class`, `a b bulk class`, `anode cathode class`
+abbrev pub card_of : DeviceKind → List (List ℕ) → List ℕ → Option DeviceCard
+card_of Mos4 (drain ∷ gate ∷ source ∷ bulk ∷ class ∷ []) sizes = Some (record {
+  kind = Mos4;
   class = class;
-  length = sizes.length;
-  width = sizes.width;
-}
+  sizes = sizes;
+  ends = Both source drain;
+  others = gate ∷ bulk ∷ [];
+})
+card_of ResistorWithBulk (a ∷ b ∷ bulk ∷ class ∷ []) sizes = Some (record {
+  kind = ResistorWithBulk;
+  class = class;
+  sizes = sizes;
+  ends = Both a b;
+  others = bulk ∷ [];
+})
+card_of Diode (anode ∷ cathode ∷ class ∷ []) sizes = Some (record {
+  kind = Diode;
+  class = class;
+  sizes = sizes;
+  ends = NoEnds;
+  others = anode ∷ cathode ∷ [];
+})
+card_of kind names sizes = None
 
--- a resistor's gate is its bulk; a diode's source and drain are its anode, its gate and bulk its
--- cathode
-abbrev pub device_of : ℕ → ℕ → Kind → List (List ℕ) → Result Sizes ValueFault
+-- so many of it, where it is there
+abbrev pub copies_said : ℕ → ℕ → Option DeviceCard → Result CardRow SpiceFault
+copies_said line copies None = Err (BadLine line)
+copies_said line copies (Some card) = Ok (Device card copies)
+
+abbrev pub device_of : ℕ → ℕ → DeviceKind → List (List ℕ) → Result (List ℕ) ValueFault
     → Result CardRow SpiceFault
 device_of line copies kind names (Err e) = Err (Value line e)
-device_of line copies Transistor (d ∷ g ∷ s ∷ b ∷ class ∷ []) (Ok sizes) =
-    Ok (Device (device_card d g s b class sizes) copies)
-device_of line copies Resistor (a ∷ b ∷ bulk ∷ class ∷ []) (Ok sizes) =
-    Ok (Device (device_card b bulk a bulk (resistor_class class) sizes) copies)
-device_of line copies Diode (anode ∷ cathode ∷ class ∷ []) (Ok sizes) =
-    Ok (Device (device_card anode cathode anode cathode (diode_class class) sizes) copies)
-device_of line copies kind names (Ok sizes) = Err (BadLine line)
+device_of line copies kind names (Ok sizes) = copies_said line copies (card_of kind names sizes)
 
--- a transistor's class isn't one of the other kinds
-abbrev pub are_device_names : Kind → List (List ℕ) → Bool
-are_device_names Transistor (d ∷ g ∷ s ∷ b ∷ class ∷ []) = not (is_further_class class)
-are_device_names Resistor (a ∷ b ∷ bulk ∷ class ∷ []) = true
-are_device_names Diode (anode ∷ cathode ∷ class ∷ []) = true
-are_device_names kind names = false
+-- a transistor's class begins with neither byte 1 nor byte 2
+abbrev pub is_class : DeviceKind → List ℕ → Bool
+is_class Mos4 [] = true
+is_class Mos4 (b ∷ bytes) = not (b == 1 || b == 2)
+is_class ResistorWithBulk class = true
+is_class Diode class = true
 
--- the names fit the kind, and the two sizes are there once each
-abbrev pub is_formed : Kind → List (List ℕ) → List Param → Bool
+abbrev pub is_class_there : DeviceKind → Option (List ℕ) → Bool
+is_class_there kind None = false
+is_class_there kind (Some class) = is_class kind class
+
+-- it stands behind the terminals
+abbrev pub has_class : DeviceKind → List (List ℕ) → Bool
+has_class kind names = is_class_there kind (slice_get names (terminal_count kind))
+
+-- a name for each terminal and the class
+abbrev pub are_device_names : DeviceKind → List (List ℕ) → Bool
+are_device_names kind names = (length names == terminal_count kind + 1) && has_class kind names
+
+-- these, and the two sizes once each
+abbrev pub is_formed : DeviceKind → List (List ℕ) → List Param → Bool
 is_formed kind names ps =
-    are_device_names kind names && is_once (length_key kind) ps && is_once (width_key kind) ps
+    are_device_names kind names && is_once (first_key kind ∷ []) ps
+    && is_once (second_key kind ∷ []) ps
 
--- `M.. drain gate source bulk class`, `R.. a b bulk class`, `D.. anode cathode class`, with the two
--- sizes once each; it stands for as many devices as M says
-abbrev pub device_row : Option Limits → Kind → ℕ → Option (List (List ℕ)) → List Param
+-- a device with its two sizes; the card stands for as many as M says
+abbrev pub device_row : Option Limits → DeviceKind → ℕ → Option (List (List ℕ)) → List Param
     → Result CardRow SpiceFault
 device_row limits kind line None ps = Err (BadLine line)
 device_row limits kind line (Some names) ps =
@@ -149,10 +168,11 @@ is_passed first =
     is_text (codes ".MODEL") first || is_text (codes ".OPTION") first
     || is_text (codes ".OPTIONS") first
 
--- M (0x4D), R (0x52), D (0x44) or X (0x58) at the beginning, or a whole word
+-- the letter of a device or X (0x58) at the beginning, or a whole word
 abbrev pub is_known : List ℕ → Bool
 is_known first =
-    begin first == 0x4D || begin first == 0x52 || begin first == 0x44 || begin first == 0x58
+    begin first == letter Mos4 || begin first == letter ResistorWithBulk
+    || begin first == letter Diode || begin first == 0x58
     || is_text (codes ".SUBCKT") first
     || is_text (codes ".ENDS") first || is_text (codes ".GLOBAL") first
     || is_text (codes ".END") first
@@ -160,9 +180,10 @@ is_known first =
 abbrev pub row_of : Option Limits → ℕ → Bool → List ℕ → List (List ℕ) → List Param
     → Result CardRow SpiceFault
 row_of limit line is_open first words ps =
-    if begin first == 0x4D then device_row limit Transistor line (names_of words) ps
-    else if begin first == 0x52 then device_row limit Resistor line (names_of words) ps
-    else if begin first == 0x44 then device_row limit Diode line (names_of words) ps
+    if begin first == letter Mos4 then device_row limit Mos4 line (names_of words) ps
+    else if begin first == letter ResistorWithBulk
+    then device_row limit ResistorWithBulk line (names_of words) ps
+    else if begin first == letter Diode then device_row limit Diode line (names_of words) ps
     else if begin first == 0x58 then call_row line (names_of words) ps
     else if is_text (codes ".SUBCKT") first then open_row line is_open (names_of words) ps
     else if is_text (codes ".ENDS") first then end_row line is_open (names_of words) ps

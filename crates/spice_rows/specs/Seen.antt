@@ -1,35 +1,13 @@
 -- What the code's records are.
-use Rattle.std.specs.Prelude.{◌≡◌, ℕ, Result, Ok, Err}
+use Rattle.std.specs.Prelude.{◌≡◌, ℕ, List, map, Result, Ok, Err}
 use Rattle.fixed_num.specs.declared.femto.Femto.{Femto}
 use Rattle.fixed_num.specs.declared.femto.ValueFault.{ValueFault}
 use Rattle.spice_rows.specs.Rows as rows
-use Rattle.spice_rows.specs.Sizes as sizes
-use Rattle.spice_rows.specs.Params as params
-use Rattle.spice_rows.specs.declared.params.Kind.{Kind}
-use Rattle.spice_rows.specs.declared.params.Kind.TheVariants as kind
-use Rattle.spice_rows.specs.declared.card.DeviceCard.{DeviceCard}
 use Rattle.spice_rows.specs.declared.card.CallCard.{CallCard}
 use Rattle.spice_rows.specs.declared.card.CardRow.{CardRow}
 use Rattle.spice_rows.specs.declared.card.CardRow.TheVariants as code
-use Rattle.spice_rows.specs.declared.sizes.Sizes.{Sizes}
 use Rattle.spice_rows.specs.declared.fault.SpiceFault.{SpiceFault}
 use Rattle.spice_rows.specs.declared.fault.SpiceFault.TheVariants.{NoMemory}
-
-abbrev pub kind_seen : Kind → params.Kind
-kind_seen kind.Transistor = params.Transistor
-kind_seen kind.Resistor = params.Resistor
-kind_seen kind.Diode = params.Diode
-
-abbrev pub device_seen : DeviceCard → rows.DeviceCard
-device_seen d = record {
-  drain = d.drain;
-  gate = d.gate;
-  source = d.source;
-  bulk = d.bulk;
-  class = d.class;
-  length = d.length.0;
-  width = d.width.0;
-}
 
 abbrev pub call_seen : CallCard → rows.CallCard
 call_seen r = record { line = r.line; nets = r.nets.items; circuit = r.circuit }
@@ -40,7 +18,7 @@ row_seen code.Ends = rows.Ends
 row_seen (code.Globals names) = rows.Globals names.items
 row_seen code.Stops = rows.Stops
 row_seen code.Passed = rows.Passed
-row_seen (code.Device d copies) = rows.Device (device_seen d) copies
+row_seen (code.Device d copies) = rows.Device d copies
 row_seen (code.Call r) = rows.Call (call_seen r)
 
 -- the answer is this fault, or that there is no memory
@@ -57,6 +35,6 @@ abbrev pub value_seen : Result Femto ValueFault → Result ℕ ValueFault
 value_seen (Ok f) = Ok f.0
 value_seen (Err e) = Err e
 
-abbrev pub sizes_seen : Result Sizes ValueFault → Result sizes.Sizes ValueFault
-sizes_seen (Ok s) = Ok (record { length = s.length.0; width = s.width.0 })
+abbrev pub sizes_seen : Result (List Femto) ValueFault → Result (List ℕ) ValueFault
+sizes_seen (Ok s) = Ok (map (λ (f : Femto). f.0) s)
 sizes_seen (Err e) = Err e

@@ -7,7 +7,9 @@ use Rattle.fixed_num.specs.declared.femto.ValueFault.TheVariants.{NotNumber, Too
 use Rattle.fixed_num.specs.Values.{Number}
 use Rattle.fixed_num.specs.Scan.{number_of, some_raised}
 use Rattle.spice_cards.specs.Parts.{Param}
-use Rattle.spice_rows.specs.Params.{Kind, is_diode, is_key, length_key, width_key}
+use Rattle.plain_netlist.specs.declared.kinds.DeviceKind.{DeviceKind}
+use Rattle.spice_rows.specs.Kinds.{first_key, has_area, second_key}
+use Rattle.spice_rows.specs.Params.{is_key}
 
 -- the greatest length and area that a text may have
 pub record Limits : Type 0 where
@@ -50,32 +52,27 @@ value_of limit text = value_at limit (number_of text)
 abbrev pub area_of : Option ℕ → List ℕ → Result ℕ ValueFault
 area_of limit text = value_at limit (some_raised 9 (number_of text))
 
--- what stands for a width: of a diode an area
-abbrev pub width_of : Option Limits → Kind → List ℕ → Result ℕ ValueFault
-width_of limits kind text =
-    if is_diode kind then area_of (area_limit limits) text
+-- the second size of a device: a length, or an area
+abbrev pub second_of : Option Limits → DeviceKind → List ℕ → Result ℕ ValueFault
+second_of limits kind text =
+    if has_area kind then area_of (area_limit limits) text
     else value_of (length_limit limits) text
 
-pub record Sizes : Type 0 where
-  pub length : ℕ
-  pub width : ℕ
-
-abbrev pub and_then : Result ℕ ValueFault → (ℕ → Result Sizes ValueFault) → Result Sizes ValueFault
+abbrev pub and_then : Result ℕ ValueFault → (ℕ → Result (List ℕ) ValueFault)
+    → Result (List ℕ) ValueFault
 and_then (Ok v) rest = rest v
 and_then (Err e) rest = Err e
 
--- sizes that parameters change, or the first fault of a value, from the left
-abbrev pub changed : Option Limits → Kind → Sizes → List Param → Result Sizes ValueFault
-changed limits kind s [] = Ok s
-changed limits kind s (p ∷ ps) =
-    if is_key (length_key kind) p
-    then and_then (value_of (length_limit limits) p.value)
-    (λ v. changed limits kind (record { length = v; width = s.width }) ps)
-    else if is_key (width_key kind) p
-    then and_then (width_of limits kind p.value)
-    (λ v. changed limits kind (record { length = s.length; width = v }) ps)
-    else changed limits kind s ps
+-- two sizes that parameters change, or the first fault of a value, from the left
+abbrev pub changed : Option Limits → DeviceKind → ℕ → ℕ → List Param → Result (List ℕ) ValueFault
+changed limits kind a b [] = Ok (a ∷ b ∷ [])
+changed limits kind a b (p ∷ ps) =
+    if is_key (first_key kind ∷ []) p
+    then and_then (value_of (length_limit limits) p.value) (λ v. changed limits kind v b ps)
+    else if is_key (second_key kind ∷ []) p
+    then and_then (second_of limits kind p.value) (λ v. changed limits kind a v ps)
+    else changed limits kind a b ps
 
--- the two sizes, zero where there is none
-abbrev pub sizes_of : Option Limits → Kind → List Param → Result Sizes ValueFault
-sizes_of limits kind ps = changed limits kind (record { length = 0; width = 0 }) ps
+-- the two sizes in the kind's order, zero where there is none
+abbrev pub sizes_of : Option Limits → DeviceKind → List Param → Result (List ℕ) ValueFault
+sizes_of limits kind ps = changed limits kind 0 0 ps

@@ -1,21 +1,7 @@
 //! What a card says: a device, a call, global names, or a circuit's begin or end.
 
-use fixed_num::Femto;
+use crate::device::DeviceCard;
 use net_names::Name;
-
-/// A device as its card names it, by the terminals of a transistor: a resistor's gate is its bulk;
-/// a diode's source and drain are its anode, its gate and bulk its cathode. A diode's length is its
-/// perimeter, its width its area in square picometres.
-#[derive(Debug, Drop)]
-pub struct DeviceCard {
-    pub drain: Name,
-    pub gate: Name,
-    pub source: Name,
-    pub bulk: Name,
-    pub class: Name,
-    pub length: Femto,
-    pub width: Femto,
-}
 
 /// A call as its card names it, with the card's line.
 #[derive(Debug, Drop)]

@@ -5,13 +5,16 @@
 #![tactic(auto)]
 
 mod card;
+mod device;
 mod fault;
+mod kinds;
 mod names;
 mod params;
 mod rows;
 mod sizes;
 
-pub use card::{CallCard, CardRow, DeviceCard};
+pub use card::{CallCard, CardRow};
+pub use device::DeviceCard;
 pub use fault::SpiceFault;
-pub use params::Kind;
+pub use kinds::{first_key, letter, second_key};
 pub use rows::read_card;

@@ -5,46 +5,12 @@ ghost use Rattle.std.specs.List.{list_any, count_by};
 ghost use Rattle.std.specs.Str.Parse.{digits_value};
 ghost use Rattle.spice_cards.specs.Seen.{params_seen, param_seen};
 ghost use Rattle.spice_rows.specs.Params.{copies_of, is_count, is_device_key, is_key, is_one};
-ghost use Rattle.spice_rows.specs.Params.{is_passed_key, is_refused, is_transistor, length_key};
-ghost use Rattle.spice_rows.specs.Params.{width_key};
-ghost use Rattle.spice_rows.specs.Seen.{kind_seen};
+ghost use Rattle.spice_rows.specs.Params.{is_passed_key, is_refused};
 
+use crate::kinds::{first_key, may_say_more, second_key};
 use crate::names::is_text;
+use plain_netlist::DeviceKind;
 use spice_cards::Param;
-
-/// The kinds of devices that cards have.
-#[derive(Clone, Copy, Debug, PartialEq, Eq)]
-pub enum Kind {
-    Transistor,
-    Resistor,
-    Diode,
-}
-
-/// The key of the length: a diode has a perimeter in its place.
-pub fn length_key(kind: Kind) -> &'static [u8]
-    ensures { result.now ≡ length_key (kind_seen kind) }
-{
-    match kind {
-        Kind::Diode => b"P",
-        _ => b"L",
-    }
-}
-
-/// The key of the width: a diode has an area in its place.
-pub fn width_key(kind: Kind) -> &'static [u8]
-    ensures { result.now ≡ width_key (kind_seen kind) }
-{
-    match kind {
-        Kind::Diode => b"A",
-        _ => b"W",
-    }
-}
-
-fn is_transistor(kind: Kind) -> bool
-    ensures { result ≡ is_transistor (kind_seen kind) }
-{
-    matches!(kind, Kind::Transistor)
-}
 
 /// How many parameters have this key.
 pub fn count(params: &[Param], key: &[u8]) -> usize
@@ -61,7 +27,7 @@ pub fn count(params: &[Param], key: &[u8]) -> usize
     n
 }
 
-// A parameter that a transistor may have besides L, W and M, and that says nothing.
+// A further parameter that says nothing.
 fn is_passed_key(key: &[u8]) -> bool
     ensures { result ≡ is_passed_key key.now }
 {
@@ -74,12 +40,12 @@ fn is_passed_key(key: &[u8]) -> bool
         || is_text(key, b"NF")
 }
 
-fn is_device_key(kind: Kind, key: &[u8]) -> bool
-    ensures { result ≡ is_device_key (kind_seen kind) key.now }
+fn is_device_key(kind: DeviceKind, key: &[u8]) -> bool
+    ensures { result ≡ is_device_key kind key.now }
 {
-    is_text(key, length_key(kind))
-        || is_text(key, width_key(kind))
-        || is_transistor(kind) && is_passed_key(key)
+    is_text(key, &[first_key(kind)])
+        || is_text(key, &[second_key(kind)])
+        || may_say_more(kind) && is_passed_key(key)
 }
 
 fn is_one(p: &Param) -> bool
@@ -109,8 +75,8 @@ fn number_of(text: &[u8]) -> Option<u32>
     if 0 < n && n <= 1000 { Some(n) } else { None }
 }
 
-fn is_refused(kind: Kind, p: &Param) -> bool
-    ensures { result ≡ is_refused (kind_seen kind) (param_seen p.now) }
+fn is_refused(kind: DeviceKind, p: &Param) -> bool
+    ensures { result ≡ is_refused kind (param_seen p.now) }
 {
     if is_text(p.key, b"M") {
         return number_of(p.value).is_none();
@@ -119,8 +85,8 @@ fn is_refused(kind: Kind, p: &Param) -> bool
 }
 
 /// Whether a device of the kind can't have one of the parameters.
-pub fn has_refused(kind: Kind, params: &[Param]) -> bool
-    ensures { result ≡ list_any (is_refused (kind_seen kind)) (params_seen params.now) }
+pub fn has_refused(kind: DeviceKind, params: &[Param]) -> bool
+    ensures { result ≡ list_any (is_refused kind) (params_seen params.now) }
 {
     let mut rest = params;
     'params: while let [p, more @ ..] = rest {

@@ -1,188 +1,99 @@
 //! What the tokens of a card say, or the card's first fault.
 
-ghost use Rattle.std.specs.Prelude.{◌≡◌, ◌∷◌, IfOk, Ok};
-ghost use Rattle.plain_netlist.specs.Classes.{is_further_class};
-ghost use Rattle.spice_rows.specs.Params.{Transistor, Resistor, Diode};
+ghost use Rattle.std.specs.Prelude.{◌≡◌, map, Ok};
+ghost use Rattle.fixed_num.specs.declared.femto.Femto.{Femto};
 ghost use Rattle.spice_cards.specs.Seen.{tokens_seen, words_seen, params_seen};
 ghost use Rattle.spice_rows.specs.Names.{names_of};
-ghost use Rattle.spice_rows.specs.Rows.{are_device_names, device_of, is_formed};
+ghost use Rattle.spice_rows.specs.Rows.{are_device_names, device_of, has_class, is_class};
+ghost use Rattle.spice_rows.specs.Rows.{is_formed};
 ghost use Rattle.spice_rows.specs.Rows.{device_row, call_row, open_row, end_row, global_row};
 ghost use Rattle.spice_rows.specs.Rows.{stop_row, row_of, card_row, is_passed, begin, is_known};
-ghost use Rattle.spice_rows.specs.Seen.{Says, kind_seen};
+ghost use Rattle.spice_rows.specs.Seen.{Says};
 ghost use Rattle.spice_rows.specs.Sizes.{read_limit};
 
-use crate::card::{CallCard, CardRow, DeviceCard};
+use crate::card::{CallCard, CardRow};
+use crate::device::DeviceCard;
 use crate::fault::SpiceFault;
+use crate::kinds::{first_key, letter, second_key};
 use crate::names::{are_apart, folded_byte, is_text, names_of};
-use crate::params::{Kind, copies_of, count, has_other, has_refused, length_key, width_key};
-use crate::sizes::{Sizes, sizes_of};
+use crate::params::{copies_of, count, has_other, has_refused};
+use crate::sizes::sizes_of;
+use fixed_num::Femto;
 use net_names::Name;
+use plain_netlist::DeviceKind;
 use spice_cards::{Param, Token, read_params, read_words};
 use std::alloc::{AllocError, Global};
-
-// Whether a class is one of a resistor or a diode.
-fn is_further_class(class: &Name) -> bool
-    ensures { result ≡ is_further_class class.now }
-{
-    match class.bytes() {
-        [first, ..] => *first == 1 || *first == 2,
-        [] => false,
-    }
-}
-
-fn are_device_names(kind: Kind, names: &[Name]) -> bool
-    ensures { result ≡ are_device_names (kind_seen kind) names.now }
-{
-    match kind {
-        Kind::Transistor => match names {
-            [_, _, _, _, class] => !is_further_class(class),
-            _ => false,
-        },
-        Kind::Resistor => names.len() == 4,
-        Kind::Diode => names.len() == 3,
-    }
-}
-
-// A class with a byte in front.
-fn marked(alloc: Global, mark: u8, class: &Name) -> Result<Name, AllocError>
-    ensures { IfOk result (λ name. name ≡ mark ∷ class.now) }
-{
-    let mut bytes = Vec::new(alloc);
-    bytes.push(mark)?;
-    bytes.extend_from_slice(class.bytes())?;
-    Ok(Name::from_vec(bytes))
-}
-
-fn transistor(
-    line: u64,
-    copies: u32,
-    names: &mut Vec<Name>,
-    sizes: Sizes,
-) -> Result<CardRow, SpiceFault>
-    ensures { Says result (device_of line copies Transistor names.old.items
-        (Ok (record { length = sizes.length.0; width = sizes.width.0 }))) }
-{
-    if names.len() != 5 {
-        return Err(SpiceFault::BadLine(line));
-    }
-    let class = names.pop();
-    let bulk = names.pop();
-    let source = names.pop();
-    let gate = names.pop();
-    let drain = names.pop();
-    match (drain, gate, source, bulk, class) {
-        (Some(drain), Some(gate), Some(source), Some(bulk), Some(class)) => {
-            let card = DeviceCard {
-                drain,
-                gate,
-                source,
-                bulk,
-                class,
-                length: sizes.length,
-                width: sizes.width,
-            };
-            Ok(CardRow::Device(card, copies))
-        }
-        _ => Err(SpiceFault::BadLine(line)),
-    }
-}
-
-fn resistor(
-    alloc: Global,
-    line: u64,
-    copies: u32,
-    names: &[Name],
-    sizes: Sizes,
-) -> Result<CardRow, SpiceFault>
-    ensures { Says result (device_of line copies Resistor names.now
-        (Ok (record { length = sizes.length.0; width = sizes.width.0 }))) }
-{
-    match names {
-        [a, b, bulk, class] => {
-            let card = DeviceCard {
-                drain: b.try_clone(alloc)?,
-                gate: bulk.try_clone(alloc)?,
-                source: a.try_clone(alloc)?,
-                bulk: bulk.try_clone(alloc)?,
-                class: marked(alloc, 1, class)?,
-                length: sizes.length,
-                width: sizes.width,
-            };
-            Ok(CardRow::Device(card, copies))
-        }
-        _ => Err(SpiceFault::BadLine(line)),
-    }
-}
-
-fn diode(
-    alloc: Global,
-    line: u64,
-    copies: u32,
-    names: &[Name],
-    sizes: Sizes,
-) -> Result<CardRow, SpiceFault>
-    ensures { Says result (device_of line copies Diode names.now
-        (Ok (record { length = sizes.length.0; width = sizes.width.0 }))) }
-{
-    match names {
-        [anode, cathode, class] => {
-            let card = DeviceCard {
-                drain: anode.try_clone(alloc)?,
-                gate: cathode.try_clone(alloc)?,
-                source: anode.try_clone(alloc)?,
-                bulk: cathode.try_clone(alloc)?,
-                class: marked(alloc, 2, class)?,
-                length: sizes.length,
-                width: sizes.width,
-            };
-            Ok(CardRow::Device(card, copies))
-        }
-        _ => Err(SpiceFault::BadLine(line)),
-    }
-}
 
 fn device_of(
     alloc: Global,
     line: u64,
     copies: u32,
-    kind: Kind,
-    names: &mut Vec<Name>,
-    sizes: Sizes,
+    kind: DeviceKind,
+    names: &[Name],
+    sizes: [Femto; 2],
 ) -> Result<CardRow, SpiceFault>
-    ensures { Says result (device_of line copies (kind_seen kind) names.old.items
-        (Ok (record { length = sizes.length.0; width = sizes.width.0 }))) }
+    ensures { Says result (device_of line copies kind names.now
+        (Ok (map (λ (f : Femto). f.0) sizes))) }
 {
-    match kind {
-        Kind::Transistor => transistor(line, copies, names, sizes),
-        Kind::Resistor => resistor(alloc, line, copies, names, sizes),
-        Kind::Diode => diode(alloc, line, copies, names, sizes),
+    match DeviceCard::of(alloc, kind, names, sizes)? {
+        Some(card) => Ok(CardRow::Device(card, copies)),
+        None => Err(SpiceFault::BadLine(line)),
     }
 }
 
-// The names fit the kind, and the two sizes are there once each.
-fn is_formed(kind: Kind, names: &[Name], params: &[Param]) -> bool
-    ensures { result ≡ is_formed (kind_seen kind) names.now (params_seen params.now) }
+// A transistor's class begins with neither byte 1 nor byte 2.
+fn is_class(kind: DeviceKind, class: &Name) -> bool
+    ensures { result ≡ is_class kind class.now }
+{
+    match kind {
+        DeviceKind::Mos4 => match class.bytes() {
+            [first, ..] => !(*first == 1 || *first == 2),
+            [] => true,
+        },
+        _ => true,
+    }
+}
+
+fn has_class(kind: DeviceKind, names: &[Name]) -> bool
+    ensures { result ≡ has_class kind names.now }
+{
+    match names.get(kind.terminals()) {
+        Some(class) => is_class(kind, class),
+        None => false,
+    }
+}
+
+// A name for each terminal and the class.
+fn are_device_names(kind: DeviceKind, names: &[Name]) -> bool
+    ensures { result ≡ are_device_names kind names.now }
+{
+    names.len() == kind.terminals() + 1 && has_class(kind, names)
+}
+
+// These, and the two sizes once each.
+fn is_formed(kind: DeviceKind, names: &[Name], params: &[Param]) -> bool
+    ensures { result ≡ is_formed kind names.now (params_seen params.now) }
 {
     if !are_device_names(kind, names) {
         return false;
     }
-    if count(params, length_key(kind)) != 1 {
+    if count(params, &[first_key(kind)]) != 1 {
         return false;
     }
-    count(params, width_key(kind)) == 1
+    count(params, &[second_key(kind)]) == 1
 }
 
 fn device(
     alloc: Global,
     line: u64,
-    kind: Kind,
+    kind: DeviceKind,
     words: &[&[u8]],
     params: &[Param],
 ) -> Result<CardRow, SpiceFault>
-    ensures { Says result (device_row read_limit (kind_seen kind) line
+    ensures { Says result (device_row read_limit kind line
         (names_of (words_seen words.now)) (params_seen params.now)) }
 {
-    let Some(mut names) = names_of(alloc, words)? else {
+    let Some(names) = names_of(alloc, words)? else {
         return Err(SpiceFault::BadLine(line));
     };
     if !is_formed(kind, &names, params) {
@@ -192,7 +103,7 @@ fn device(
         return Err(SpiceFault::ParameterRefused(line));
     }
     match sizes_of(kind, params) {
-        Ok(sizes) => device_of(alloc, line, copies_of(params), kind, &mut names, sizes),
+        Ok(sizes) => device_of(alloc, line, copies_of(params), kind, &names, sizes),
         Err(e) => Err(SpiceFault::Value(line, e)),
     }
 }
@@ -316,9 +227,9 @@ fn begin(word: &[u8]) -> u8
 fn is_known(first: &[u8]) -> bool
     ensures { result ≡ is_known first.now }
 {
-    begin(first) == b'M'
-        || begin(first) == b'R'
-        || begin(first) == b'D'
+    begin(first) == letter(DeviceKind::Mos4)
+        || begin(first) == letter(DeviceKind::ResistorWithBulk)
+        || begin(first) == letter(DeviceKind::Diode)
         || begin(first) == b'X'
         || is_text(first, b".SUBCKT")
         || is_text(first, b".ENDS")
@@ -337,14 +248,14 @@ fn row_of(
     ensures { Says result
         (row_of read_limit line is_open first.now (words_seen words.now) (params_seen params.now)) }
 {
-    if begin(first) == b'M' {
-        return device(alloc, line, Kind::Transistor, words, params);
+    if begin(first) == letter(DeviceKind::Mos4) {
+        return device(alloc, line, DeviceKind::Mos4, words, params);
     }
-    if begin(first) == b'R' {
-        return device(alloc, line, Kind::Resistor, words, params);
+    if begin(first) == letter(DeviceKind::ResistorWithBulk) {
+        return device(alloc, line, DeviceKind::ResistorWithBulk, words, params);
     }
-    if begin(first) == b'D' {
-        return device(alloc, line, Kind::Diode, words, params);
+    if begin(first) == letter(DeviceKind::Diode) {
+        return device(alloc, line, DeviceKind::Diode, words, params);
     }
     if begin(first) == b'X' {
         return call(alloc, line, words, params);

@@ -1,22 +1,16 @@
-//! The length and the width of a device, or the first fault of a value.
+//! The sizes of a device, or the first fault of a value.
 
 ghost use Rattle.std.specs.Prelude.{◌≡◌};
 ghost use Rattle.spice_cards.specs.Seen.{params_seen};
-ghost use Rattle.spice_rows.specs.Sizes.{area_limit, area_of, length_limit, read_limit, sizes_of};
-ghost use Rattle.spice_rows.specs.Sizes.{value_of, width_of};
-ghost use Rattle.spice_rows.specs.Seen.{kind_seen, value_seen, sizes_seen};
+ghost use Rattle.spice_rows.specs.Sizes.{area_limit, area_of, length_limit, read_limit, second_of};
+ghost use Rattle.spice_rows.specs.Sizes.{sizes_of, value_of};
+ghost use Rattle.spice_rows.specs.Seen.{value_seen, sizes_seen};
 
+use crate::kinds::{first_key, has_area, second_key};
 use crate::names::is_text;
-use crate::params::{Kind, length_key, width_key};
 use fixed_num::{Femto, ValueFault, parse_area, parse_value};
+use plain_netlist::DeviceKind;
 use spice_cards::Param;
-
-/// The sizes of a device: of a diode its perimeter, and its area in square picometres.
-#[derive(Clone, Copy)]
-pub struct Sizes {
-    pub length: Femto,
-    pub width: Femto,
-}
 
 fn value(text: &[u8]) -> Result<Femto, ValueFault>
     ensures { value_seen result ≡ value_of (length_limit read_limit) text.now }
@@ -30,35 +24,34 @@ fn area(text: &[u8]) -> Result<u128, ValueFault>
     parse_area(text)
 }
 
-fn width(kind: Kind, text: &[u8]) -> Result<Femto, ValueFault>
-    ensures { value_seen result ≡ width_of read_limit (kind_seen kind) text.now }
+// The second size: a length, or an area in square picometres.
+fn second(kind: DeviceKind, text: &[u8]) -> Result<Femto, ValueFault>
+    ensures { value_seen result ≡ second_of read_limit kind text.now }
 {
-    match kind {
-        Kind::Diode => match area(text) {
-            Ok(area) => Ok(Femto(area)),
-            Err(fault) => Err(fault),
-        },
-        _ => value(text),
+    if !has_area(kind) {
+        return value(text);
+    }
+    match area(text) {
+        Ok(area) => Ok(Femto(area)),
+        Err(fault) => Err(fault),
     }
 }
 
-/// The two sizes, zero where there is none, or the first fault of one, from the left.
-pub fn sizes_of(kind: Kind, params: &[Param]) -> Result<Sizes, ValueFault>
-    ensures { sizes_seen result ≡ sizes_of read_limit (kind_seen kind) (params_seen params.now) }
+/// The two sizes in the kind's order, zero where there is none, or the first fault of one, from the
+/// left.
+pub fn sizes_of(kind: DeviceKind, params: &[Param]) -> Result<[Femto; 2], ValueFault>
+    ensures { sizes_seen result ≡ sizes_of read_limit kind (params_seen params.now) }
 {
-    let mut long = Femto(0);
-    let mut wide = Femto(0);
+    let mut a = Femto(0);
+    let mut b = Femto(0);
     let mut rest = params;
     'params: while let [p, more @ ..] = rest {
-        if is_text(p.key, length_key(kind)) {
-            long = value(p.value)?;
-        } else if is_text(p.key, width_key(kind)) {
-            wide = width(kind, p.value)?;
+        if is_text(p.key, &[first_key(kind)]) {
+            a = value(p.value)?;
+        } else if is_text(p.key, &[second_key(kind)]) {
+            b = second(kind, p.value)?;
         }
         rest = more;
     }
-    Ok(Sizes {
-        length: long,
-        width: wide,
-    })
+    Ok([a, b])
 }

@@ -10,6 +10,8 @@ use Rattle.std.proofs.lemmas.Slice.Eq.{bytes_eq-Decides}
 use Rattle.text_table.specs.Texts.{has_text, place_of}
 use Rattle.call_order.specs.Order.{ReachesItself}
 use Rattle.plain_netlist.specs.Lists.{IsListed, AreApart}
+use Rattle.plain_netlist.specs.Devices.{terminal_nets}
+use Rattle.plain_netlist.proofs.Rows.{row_over_agrees, row_over_self, row_over_twice, terminal_nets_over}
 use Rattle.plain_netlist.specs.Netlist as plain
 use Rattle.plain_netlist.specs.Normal as normal
 use Rattle.plain_netlist.specs.Sound as sound
@@ -28,12 +30,14 @@ use Rattle.spice_text.specs.Means.{call_names, appearances, net_names, device_ro
 use Rattle.spice_text.specs.Laws.{IsName, IsWritable, WrittenMeansLaw, ReadAgainLaw}
 use Rattle.spice_text.specs.Written.{or_empty, name_in, IsWritten}
 use Rattle.spice_text.proofs.PinLemmas.{place_at, has_listed, unseen_behind}
-use Rattle.spice_text.specs.Cards.{kind_of}
 use Rattle.spice_text.proofs.RowLemmas.{AreNames, name_at, AreSizesUnder, device_card}
 use Rattle.spice_text.proofs.TextLemmas.{call_card, call_cards, circuit_card, behind, circuit_cards, IsReadable, at_rest, text_read}
 
 some_one : {A : Type 0} (a b : A) → (let x : Option A = Some a in x) ≡ Some b → a ≡ b
 some_one a b e = cc
+
+abbrev terminals_of : plain.DeviceRow → List ℕ
+terminals_of d = terminal_nets d
 
 -- ---- names of nets
 
@@ -76,7 +80,7 @@ pins_apart c one h = ap (λ (t : Bool). not t) (no_twins [] (map (name_at c.nets
         let p = map_from (name_at c.nets) c.pins a name e in
         let is = h.pins a p.0 p.1 in
         let low = below_total (length c.nets) 0 (normal.appearances c) h.numbered p.0
-        (in_left c.pins (flat_map normal.terminal_nets c.devices ++ flat_map (λ (r : plain.CallRow). r.nets) c.calls) p.0 (listed c.pins a p.0 p.1)) in
+        (in_left c.pins (flat_map terminals_of c.devices ++ flat_map (λ (r : plain.CallRow). r.nets) c.calls) p.0 (listed c.pins a p.0 p.1)) in
         subst (λ (m : ℕ). slice_get c.nets m ≡ Some name) is (name_there c.nets p.0 low ∙ ap (λ (n : List ℕ). let o : Option (List ℕ) = Some n in o) p.2)
 
     same : AtOnePlace (map (name_at c.nets) c.pins)
@@ -130,9 +134,13 @@ again nets seen (r ∷ rest) (x ∷ xs) e a (inr h) =
 abbrev pub none : ℕ → List (List ℕ)
 none k = []
 
-devices_seen : (nets : List (List ℕ)) (ds : List plain.DeviceRow) → flat_map device_nets (map (device_card nets) ds) ≡ map (name_at nets) (flat_map normal.terminal_nets ds)
+devices_seen : (nets : List (List ℕ)) (ds : List plain.DeviceRow) → flat_map device_nets (map (device_card nets) ds) ≡ map (name_at nets) (flat_map terminals_of ds)
 devices_seen nets [] = refl
-devices_seen nets (d ∷ ds) = ap (λ (xs : List (List ℕ)). name_at nets d.drain ∷ name_at nets d.gate ∷ name_at nets d.source ∷ name_at nets d.bulk ∷ xs) (devices_seen nets ds)
+devices_seen nets (d ∷ ds) =
+    let f = name_at nets in
+    ap (λ (xs : List (List ℕ)). xs ++ flat_map device_nets (map (device_card nets) ds)) (terminal_nets_over f d)
+    ∙ ap (λ (xs : List (List ℕ)). map f (terminal_nets d) ++ xs) (devices_seen nets ds)
+    ∙ sym (map-append f (terminal_nets d) (flat_map terminals_of ds))
 
 calls_seen : (names : List (List ℕ)) (cs : List plain.Circuit) (nets : List (List ℕ)) (line : ℕ) (rs : List plain.CallRow)
     → flat_map (call_names names none) (call_cards cs nets line rs) ≡ map (name_at nets) (flat_map (λ (r : plain.CallRow). r.nets) rs)
@@ -145,7 +153,7 @@ calls_seen names cs nets line (r ∷ rs) =
 all_seen : (names : List (List ℕ)) (cs : List plain.Circuit) (m n : ℕ) (c : plain.Circuit) → appearances names none m (circuit_card cs n c) ≡ map (name_at c.nets) (normal.appearances c)
 all_seen names cs m n c =
     let f = name_at c.nets in
-    let devices = flat_map normal.terminal_nets c.devices in
+    let devices = flat_map terminals_of c.devices in
     let calls = flat_map (λ (r : plain.CallRow). r.nets) c.calls in
     ap (λ (xs : List (List ℕ)). map f c.pins ++ (xs ++ flat_map (call_names names none) (call_cards cs c.nets (n + 1 + length c.devices) c.calls))) (devices_seen c.nets c.devices)
     ∙ ap (λ (xs : List (List ℕ)). map f c.pins ++ (map f devices ++ xs)) (calls_seen names cs c.nets (n + 1 + length c.devices) c.calls)
@@ -155,21 +163,17 @@ all_seen names cs m n c =
 abbrev AreBelow : List (List ℕ) → List ℕ → Type 0
 AreBelow nets ns = (n : ℕ) → IsListed n ns → n < length nets
 
-device_back : (nets : List (List ℕ)) (d : plain.DeviceRow) → AreApart nets → AreBelow nets (normal.terminal_nets d) → device_row nets (device_card nets d) ≡ d
+device_back : (nets : List (List ℕ)) (d : plain.DeviceRow) → AreApart nets → AreBelow nets (terminal_nets d) → device_row nets (device_card nets d) ≡ d
 device_back nets d a h =
-    let made : ℕ → ℕ → ℕ → ℕ → plain.DeviceRow = λ s g r b. record { class = d.class; length = d.length; width = d.width; source = s; gate = g; drain = r; bulk = b } in
-    let p = place_of nets in
-    let f = name_at nets in
-    ap (λ (s : ℕ). made s (p (f d.gate)) (p (f d.drain)) (p (f d.bulk))) (place_back nets d.source a (h d.source (inr (inr (inl refl)))))
-    ∙ ap (λ (g : ℕ). made d.source g (p (f d.drain)) (p (f d.bulk))) (place_back nets d.gate a (h d.gate (inr (inl refl))))
-    ∙ ap (λ (r : ℕ). made d.source d.gate r (p (f d.bulk))) (place_back nets d.drain a (h d.drain (inl refl)))
-    ∙ ap (λ (b : ℕ). made d.source d.gate d.drain b) (place_back nets d.bulk a (h d.bulk (inr (inr (inr (inl refl))))))
+    row_over_twice (place_of nets) (name_at nets) d
+    ∙ row_over_agrees (λ n. place_of nets (name_at nets n)) (λ n. n) d (λ n i. place_back nets n a (h n i))
+    ∙ row_over_self d
 
-devices_back : (nets : List (List ℕ)) (ds : List plain.DeviceRow) → AreApart nets → AreBelow nets (flat_map normal.terminal_nets ds) → map (device_row nets) (map (device_card nets) ds) ≡ ds
+devices_back : (nets : List (List ℕ)) (ds : List plain.DeviceRow) → AreApart nets → AreBelow nets (flat_map terminals_of ds) → map (device_row nets) (map (device_card nets) ds) ≡ ds
 devices_back nets [] a h = refl
 devices_back nets (d ∷ ds) a h =
-    ap (λ (x : plain.DeviceRow). x ∷ map (device_row nets) (map (device_card nets) ds)) (device_back nets d a (λ n i. h n (in_left (normal.terminal_nets d) (flat_map normal.terminal_nets ds) n i)))
-    ∙ ap (λ (xs : List plain.DeviceRow). d ∷ xs) (devices_back nets ds a (λ n i. h n (in_right (normal.terminal_nets d) (flat_map normal.terminal_nets ds) n i)))
+    ap (λ (x : plain.DeviceRow). x ∷ map (device_row nets) (map (device_card nets) ds)) (device_back nets d a (λ n i. h n (in_left (terminal_nets d) (flat_map terminals_of ds) n i)))
+    ∙ ap (λ (xs : List plain.DeviceRow). d ∷ xs) (devices_back nets ds a (λ n i. h n (in_right (terminal_nets d) (flat_map terminals_of ds) n i)))
 
 calls_back : (names : List (List ℕ)) (cs : List plain.Circuit) (nets : List (List ℕ)) (line : ℕ) (rs : List plain.CallRow) → AreApart nets → AreBelow nets (flat_map (λ (r : plain.CallRow). r.nets) rs)
     → ((r : plain.CallRow) → IsListed r rs → place_of names (name_in (slice_get cs r.circuit)) ≡ r.circuit) → map (call_row names none nets) (call_cards cs nets line rs) ≡ rs
@@ -189,7 +193,7 @@ row_back : (names : List (List ℕ)) (cs : List plain.Circuit) (c : plain.Circui
     → ((r : plain.CallRow) → IsListed r c.calls → place_of names (name_in (slice_get cs r.circuit)) ≡ r.circuit) → (m n : ℕ) → circuit_row names none m (circuit_card cs n c) ≡ c
 row_back names cs c one h called m n =
     let a = apart_from c.nets one in
-    let devices = flat_map normal.terminal_nets c.devices in
+    let devices = flat_map terminals_of c.devices in
     let calls = flat_map (λ (r : plain.CallRow). r.nets) c.calls in
     let below : AreBelow c.nets (normal.appearances c) = λ x i. below_total (length c.nets) 0 (normal.appearances c) h.numbered x i in
     let nets : net_names names none m (circuit_card cs n c) ≡ c.nets = ap (λ (xs : List (List ℕ)). first_seen [] xs) (all_seen names cs m n c) ∙ again c.nets [] c.nets (normal.appearances c) refl a h.numbered in
@@ -278,10 +282,10 @@ names_all nets [] h named = tt
 names_all nets (n ∷ ns) h named = (named n (name_at nets n) (name_there nets n (h n (inl refl))), names_all nets ns (λ m i. h m (inr i)) named)
 
 abbrev pub AreUnder : Option Limits → plain.Netlist → Type 0
-AreUnder limit nl = (t i : ℕ) (d : plain.DeviceRow) → plain.IsDevice nl t i d → AreSizesUnder (kind_of d.class) limit d
+AreUnder limit nl = (t i : ℕ) (d : plain.DeviceRow) → plain.IsDevice nl t i d → AreSizesUnder d.kind limit d
 
 abbrev terminals : plain.Circuit → List ℕ
-terminals c = flat_map normal.terminal_nets c.devices
+terminals c = flat_map terminals_of c.devices
 
 abbrev called_nets : plain.Circuit → List ℕ
 called_nets c = flat_map (λ (r : plain.CallRow). r.nets) c.calls
@@ -296,15 +300,11 @@ readable limit nl s n w u t c h = record {
       let i = position c.devices d l in
       let is : plain.IsDevice nl t i.0 d = (c, h, i.1) in
       record {
-        is = refl;
-        fits = w.cards t c h i.0 d i.1;
-        drain = net d l d.drain (inl refl);
-        gate = net d l d.gate (inr (inl refl));
-        source = net d l d.source (inr (inr (inl refl)));
-        bulk = net d l d.bulk (inr (inr (inr (inl refl))));
+        formed = w.formed t i.0 d is;
+        named = net d l;
         class = w.classes t i.0 d is;
-        length = w.lengths t i.0 d is;
-        width = w.widths t i.0 d is;
+        model = w.models t i.0 d is;
+        sizes = w.sizes t i.0 d is;
         under = u t i.0 d is;
       };
   calls = λ r l.
@@ -321,9 +321,9 @@ readable limit nl s n w u t c h = record {
     below : (x : ℕ) → IsListed x (normal.appearances c) → x < length c.nets
     below x i = below_total (length c.nets) 0 (normal.appearances c) (n t c h).numbered x i
 
-    net : (d : plain.DeviceRow) → IsListed d c.devices → (x : ℕ) → IsListed x (normal.terminal_nets d) → IsName (name_at c.nets x)
+    net : (d : plain.DeviceRow) → IsListed d c.devices → (x : ℕ) → IsListed x (terminal_nets d) → IsName (name_at c.nets x)
     net d l x i = named x (name_at c.nets x) (name_there c.nets x (below x (in_right c.pins (terminals c ++ called_nets c) x
-        (in_left (terminals c) (called_nets c) x (in_all normal.terminal_nets c.devices d x l i)))))
+        (in_left (terminals c) (called_nets c) x (in_all terminals_of c.devices d x l i)))))
 
 -- ---- nothing is wrong with them
 

@@ -1,6 +1,6 @@
+pub mod Firsts
 pub mod SearchLemmas
 pub mod CallLemmas
-pub mod FitLemmas
 pub mod NeedLemmas
 pub mod MeansLemmas
 pub mod WriteLemmas

@@ -7,6 +7,8 @@ use Rattle.std.specs.Str.{bytes_eq}
 use Rattle.std.proofs.lemmas.List.{append-nil, map-append, length-append}
 use Rattle.std.proofs.lemmas.Slice.Eq.{bytes_eq-Decides}
 use Rattle.text_table.specs.Texts.{has_text, with_text, place_of}
+use Rattle.plain_netlist.specs.Devices.{terminal_nets}
+use Rattle.plain_netlist.proofs.Rows.{terminal_nets_over}
 use Rattle.plain_netlist.specs.Netlist as plain
 use Rattle.plain_netlist.specs.Normal as normal
 use Rattle.spice_rows.specs.Rows.{DeviceCard, CallCard}
@@ -54,9 +56,13 @@ numbered total seen (n ∷ ns) e = elim (cases_Bool (has_text seen n)) [
       inr (at, subst (λ (k : ℕ). normal.AreNumbered (length total) k (map (place_of total) ns)) len (numbered total (seen ++ n ∷ []) ns e1))
 ]
 
-devices_map : (nets : List (List ℕ)) (ds : List DeviceCard) → flat_map normal.terminal_nets (map (device_row nets) ds) ≡ map (place_of nets) (flat_map device_nets ds)
+devices_map : (nets : List (List ℕ)) (ds : List DeviceCard) → flat_map (λ (r : plain.DeviceRow). terminal_nets r) (map (device_row nets) ds) ≡ map (place_of nets) (flat_map device_nets ds)
 devices_map nets [] = refl
-devices_map nets (d ∷ ds) = ap (λ (xs : List ℕ). place_of nets d.drain ∷ place_of nets d.gate ∷ place_of nets d.source ∷ place_of nets d.bulk ∷ xs) (devices_map nets ds)
+devices_map nets (d ∷ ds) =
+    let f = place_of nets in
+    ap (λ (xs : List ℕ). xs ++ flat_map (λ (r : plain.DeviceRow). terminal_nets r) (map (device_row nets) ds)) (terminal_nets_over f d)
+    ∙ ap (λ (xs : List ℕ). map f (device_nets d) ++ xs) (devices_map nets ds)
+    ∙ sym (map-append f (device_nets d) (flat_map device_nets ds))
 
 calls_map : (names : List (List ℕ)) (needed : ℕ → List (List ℕ)) (nets : List (List ℕ)) (rs : List CallCard)
     → flat_map (λ (r : plain.CallRow). r.nets) (map (call_row names needed nets) rs) ≡ map (place_of nets) (flat_map (call_names names needed) rs)

@@ -9,10 +9,12 @@ use Rattle.spice_cards.specs.Tokens.{Token, Word, Equals}
 use Rattle.spice_cards.specs.Cards.{Card, cards_of, early_more}
 use Rattle.spice_cards.specs.Parts.{Param, words_of, behind_words, params_of}
 use Rattle.spice_rows.specs.Names.{names_of, are_apart, is_text}
-use Rattle.spice_rows.specs.Params.{Kind, Transistor, Resistor, Diode, copies_of, is_one, is_refused}
-use Rattle.spice_rows.specs.Sizes.{Limits, Sizes, sizes_of}
+use Rattle.plain_netlist.specs.declared.kinds.DeviceKind.{DeviceKind}
+use Rattle.plain_netlist.specs.declared.kinds.DeviceKind.TheVariants.{Mos4, ResistorWithBulk, Diode}
+use Rattle.spice_rows.specs.Params.{copies_of, is_one, is_refused}
+use Rattle.spice_rows.specs.Sizes.{Limits, sizes_of}
 use Rattle.spice_rows.specs.Rows as rows
-use Rattle.spice_rows.specs.Rows.{CardRow, Opens, Ends, Globals, Stops, Passed, Device, Call}
+use Rattle.spice_rows.specs.Rows.{CardRow, DeviceCard, Opens, Ends, Globals, Stops, Passed, Device, Call}
 use Rattle.spice_rows.specs.declared.fault.SpiceFault.{SpiceFault}
 use Rattle.spice_text.specs.Gather.{Circuit, Cards, no_cards, closed, changed, or_top, with_row, with_devices, with_call, read_on, reading, reading_of, early_or}
 use Rattle.spice_text.specs.Circuits.{all_of}
@@ -39,28 +41,15 @@ module _ (P : List ℕ → List (List ℕ) → Type 0) (opens : (words : List (L
     | inr f ↦ rw f (record {})
   ]
 
-  device_of_opened : (line copies : ℕ) (kind : Kind) (names : List (List ℕ)) (sizes : Result Sizes ValueFault) → IfOk (rows.device_of line copies kind names sizes) Opened
-  device_of_opened line copies kind names (Err e) = record {}
-  device_of_opened line copies Transistor [] (Ok s) = record {}
-  device_of_opened line copies Transistor (a ∷ []) (Ok s) = record {}
-  device_of_opened line copies Transistor (a ∷ b ∷ []) (Ok s) = record {}
-  device_of_opened line copies Transistor (a ∷ b ∷ c ∷ []) (Ok s) = record {}
-  device_of_opened line copies Transistor (a ∷ b ∷ c ∷ d ∷ []) (Ok s) = record {}
-  device_of_opened line copies Transistor (a ∷ b ∷ c ∷ d ∷ e ∷ []) (Ok s) = record {}
-  device_of_opened line copies Transistor (a ∷ b ∷ c ∷ d ∷ e ∷ f ∷ g) (Ok s) = record {}
-  device_of_opened line copies Resistor [] (Ok s) = record {}
-  device_of_opened line copies Resistor (a ∷ []) (Ok s) = record {}
-  device_of_opened line copies Resistor (a ∷ b ∷ []) (Ok s) = record {}
-  device_of_opened line copies Resistor (a ∷ b ∷ c ∷ []) (Ok s) = record {}
-  device_of_opened line copies Resistor (a ∷ b ∷ c ∷ d ∷ []) (Ok s) = record {}
-  device_of_opened line copies Resistor (a ∷ b ∷ c ∷ d ∷ e ∷ f) (Ok s) = record {}
-  device_of_opened line copies Diode [] (Ok s) = record {}
-  device_of_opened line copies Diode (a ∷ []) (Ok s) = record {}
-  device_of_opened line copies Diode (a ∷ b ∷ []) (Ok s) = record {}
-  device_of_opened line copies Diode (a ∷ b ∷ c ∷ []) (Ok s) = record {}
-  device_of_opened line copies Diode (a ∷ b ∷ c ∷ d ∷ e) (Ok s) = record {}
+  said_opened : (line copies : ℕ) (card : Option DeviceCard) → IfOk (rows.copies_said line copies card) Opened
+  said_opened line copies None = record {}
+  said_opened line copies (Some card) = record {}
 
-  device_opened : (limit : Option Limits) (kind : Kind) (line : ℕ) (names : Option (List (List ℕ))) (ps : List Param) → IfOk (rows.device_row limit kind line names ps) Opened
+  device_of_opened : (line copies : ℕ) (kind : DeviceKind) (names : List (List ℕ)) (sizes : Result (List ℕ) ValueFault) → IfOk (rows.device_of line copies kind names sizes) Opened
+  device_of_opened line copies kind names (Err e) = record {}
+  device_of_opened line copies kind names (Ok s) = said_opened line copies (rows.card_of kind names s)
+
+  device_opened : (limit : Option Limits) (kind : DeviceKind) (line : ℕ) (names : Option (List (List ℕ))) (ps : List Param) → IfOk (rows.device_row limit kind line names ps) Opened
   device_opened limit kind line None ps = record {}
   device_opened limit kind line (Some names) ps = elim (cases_Bool (rows.is_formed kind names ps)) [
     | inl t ↦ rw t (elim (cases_Bool (list_any (is_refused kind) ps)) [ inl t ↦ rw t (record {}) | inr g ↦ rw g (device_of_opened line (copies_of ps) kind names (sizes_of limit kind ps)) ])
@@ -94,9 +83,9 @@ module _ (P : List ℕ → List (List ℕ) → Type 0) (opens : (words : List (L
 
   row_opened : (limit : Option Limits) (line : ℕ) (open_too : Bool) (first : List ℕ) (words : List (List ℕ)) (ps : List Param) → IfOk (rows.row_of limit line open_too first words ps) Opened
   row_opened limit line open_too first words ps = elim (cases_Bool (rows.begin first == 0x4D)) [
-    | inl t ↦ rw t (device_opened limit Transistor line (names_of words) ps)
+    | inl t ↦ rw t (device_opened limit Mos4 line (names_of words) ps)
     | inr f ↦ rw f (elim (cases_Bool (rows.begin first == 0x52)) [
-      | inl t ↦ rw t (device_opened limit Resistor line (names_of words) ps)
+      | inl t ↦ rw t (device_opened limit ResistorWithBulk line (names_of words) ps)
       | inr f ↦ rw f (elim (cases_Bool (rows.begin first == 0x44)) [
         | inl t ↦ rw t (device_opened limit Diode line (names_of words) ps)
         | inr f ↦ rw f (elim (cases_Bool (rows.begin first == 0x58)) [

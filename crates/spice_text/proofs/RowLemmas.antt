@@ -1,8 +1,7 @@
 -- What the lines of a written text are, and what their cards say.
-use Rattle.std.proofs.Common.{◌≡◌, ℕ, suc, ◌+◌, ◌==◌, ◌*◌, ◌^◌, ◌/◌, ◌<◌, ◌≤◌, Bool, true, false, List, [], ◌∷◌, ◌++◌, map, drop, length, Option, Some, None, Result, Ok, Err, refl, sym, ap, subst, ◌∙◌, append_assoc, arith}
+use Rattle.std.proofs.Common.{◌≡◌, inl, inr, ℕ, ◌+◌, ◌*◌, ◌^◌, ◌/◌, ◌<◌, ◌≤◌, Bool, true, false, List, [], ◌∷◌, ◌++◌, map, length, Option, Some, None, Result, Ok, Err, refl, sym, ap, subst, ◌∙◌, append_assoc, arith}
 use Rattle.std.specs.Prelude.{decimal, if◌then◌else◌, codes}
 use Rattle.std.specs.List.{list_all, list_any}
-use Rattle.std.proofs.lemmas.Bool.{eqb-true}
 use Rattle.std.proofs.lemmas.List.{append-nil, length-append, map-append}
 use Rattle.fixed_num.specs.Values.{Number}
 use Rattle.fixed_num.specs.Microns.{pointed, IsOver}
@@ -11,23 +10,28 @@ use Rattle.fixed_num.specs.declared.femto.ValueFault.{ValueFault}
 use Rattle.fixed_num.proofs.ReadBack.{read_back, area_back}
 use Rattle.fixed_num.proofs.Spelling.{complete}
 use Rattle.net_names.specs.Escapes.{escaped, unescaped}
-use Rattle.net_names.specs.Folding.{folded_byte, folded_bytes}
 use Rattle.net_names.proofs.Spelling.{escaped_read}
-use Rattle.plain_netlist.specs.Classes.{resistor_class, diode_class, is_further_class}
+use Rattle.plain_netlist.specs.declared.kinds.DeviceKind.{DeviceKind}
+use Rattle.plain_netlist.specs.declared.kinds.DeviceKind.TheVariants.{Mos4, ResistorWithBulk, Diode}
+use Rattle.plain_netlist.specs.Devices.{Ends as DeviceEnds, NoEnds, Both, IsFormed, nets_of, terminal_nets, ends_over, row_over}
+use Rattle.plain_netlist.specs.Lists.{IsListed}
 use Rattle.plain_netlist.specs.Netlist as plain
 use Rattle.spice_cards.specs.Tokens.{Token, Word, Equals}
 use Rattle.spice_cards.specs.Parts.{Param, begins_equals, words_of, behind_words, params_of}
 use Rattle.spice_rows.specs.Names.{folded_some, name_of, name_onto, names_of, are_apart}
-use Rattle.spice_rows.specs.Params.{Kind, Transistor, Resistor, Diode, copies_of, is_diode, is_refused}
-use Rattle.spice_rows.specs.Sizes.{Limits, Sizes, length_limit, area_limit, is_above, value_at, value_of, area_of, and_then, changed, sizes_of}
+use Rattle.spice_rows.specs.Kinds.{letter, has_area, in_card_order, card_nets}
+use Rattle.spice_rows.specs.Params.{copies_of, is_refused}
+use Rattle.spice_rows.specs.Sizes.{Limits, length_limit, area_limit, is_above, value_at, value_of, area_of, and_then, changed, sizes_of}
 use Rattle.spice_rows.specs.Rows as rows
 use Rattle.spice_rows.specs.Rows.{CardRow, Opens, Passed, Ends as EndsRow, Device, Call, DeviceCard, card_row}
 use Rattle.spice_rows.specs.declared.fault.SpiceFault.{SpiceFault}
 use Rattle.spice_rows.specs.declared.fault.SpiceFault.TheVariants.{BadLine, UnknownCard}
 use Rattle.spice_rows.proofs.DeviceRows.{taken}
+use Rattle.net_model.proofs.Shapes.{by_shape}
+use Rattle.spice_rows.proofs.Formed.{two_are}
 use Rattle.spice_rows.proofs.NameLemmas.{call_is}
 use Rattle.spice_rows.proofs.ValueLemmas.{positive, settled_is, within}
-use Rattle.spice_text.specs.Cards.{FitsCard, kind_of, shown_class, letter, card_nets, first_key, second_key}
+use Rattle.spice_text.specs.Cards.{first_size, second_size, front_key, back_key}
 use Rattle.spice_text.specs.Laws.{IsName, IsWithinFor}
 use Rattle.spice_text.specs.Written.{or_empty, nets_text, IsLengthText, IsAreaText, AreSizes, sizes_text, device_text}
 use Rattle.spice_text.proofs.WordLemmas.{is_easy, IsWord, easy_word, escaped_word, Begins, decimal_easy, easy_append, digits_all, Ends, at_end, blank_word, equals_word}
@@ -59,6 +63,11 @@ names_back (n ∷ ns) h =
     ap (λ (o : Option (List ℕ)). name_onto o (names_of (map escaped ns))) (name_back n h.0)
     ∙ ap (λ (o : Option (List (List ℕ))). name_onto (Some n) o) (names_back ns h.1)
 
+-- names by which there are such
+pub names_from : (f : ℕ → List ℕ) (ns : List ℕ) → ((n : ℕ) → IsListed n ns → IsName (f n)) → AreNames (map f ns)
+names_from f [] h = tt
+names_from f (n ∷ ns) h = (h n (inl refl), names_from f ns (λ m i. h m (inr i)))
+
 names_append : (ns ms : List (List ℕ)) → AreNames ns → AreNames ms → AreNames (ns ++ ms)
 names_append [] ms h g = g
 names_append (n ∷ ns) ms h g = (h.0, names_append ns ms h.1 g)
@@ -77,7 +86,7 @@ IsUnder None v = Unit {0}
 IsUnder (Some limit) v = v ≤ limit
 
 -- nor are those of a device
-abbrev pub AreSizesUnder : Kind → Option Limits → plain.DeviceRow → Type 0
+abbrev pub AreSizesUnder : DeviceKind → Option Limits → plain.DeviceRow → Type 0
 AreSizesUnder kind None d = Unit {0}
 AreSizesUnder kind (Some limits) d = IsWithinFor kind limits d
 
@@ -85,19 +94,19 @@ under : (limit : Option ℕ) (v d : ℕ) → IsUnder limit v → is_above limit 
 under None v d h = refl
 under (Some limit) v d h = within limit d v h
 
-length_under : (limits : Option Limits) (kind : Kind) (d : plain.DeviceRow) → AreSizesUnder kind limits d → IsUnder (length_limit limits) d.length
-length_under None kind d h = tt
-length_under (Some limits) Transistor d h = h.0
-length_under (Some limits) Resistor d h = h.0
-length_under (Some limits) Diode d h = h.0
+first_under : (limits : Option Limits) (kind : DeviceKind) (d : plain.DeviceRow) → AreSizesUnder kind limits d → IsUnder (length_limit limits) (first_size d)
+first_under None kind d h = tt
+first_under (Some limits) Mos4 d h = h.0
+first_under (Some limits) ResistorWithBulk d h = h.0
+first_under (Some limits) Diode d h = h.0
 
-width_under : (limits : Option Limits) (kind : Kind) (d : plain.DeviceRow) → is_diode kind ≡ false → AreSizesUnder kind limits d → IsUnder (length_limit limits) d.width
-width_under None kind d long h = tt
-width_under (Some limits) Transistor d long h = h.1
-width_under (Some limits) Resistor d long h = h.1
-width_under (Some limits) Diode d long h = absurd cc
+second_under : (limits : Option Limits) (kind : DeviceKind) (d : plain.DeviceRow) → has_area kind ≡ false → AreSizesUnder kind limits d → IsUnder (length_limit limits) (second_size d)
+second_under None kind d long h = tt
+second_under (Some limits) Mos4 d long h = h.1
+second_under (Some limits) ResistorWithBulk d long h = h.1
+second_under (Some limits) Diode d long h = absurd cc
 
-area_under : (limits : Option Limits) (d : plain.DeviceRow) → AreSizesUnder Diode limits d → IsUnder (area_limit limits) d.width
+area_under : (limits : Option Limits) (d : plain.DeviceRow) → AreSizesUnder Diode limits d → IsUnder (area_limit limits) (second_size d)
 area_under None d h = tt
 area_under (Some limits) d h = h.1
 
@@ -133,10 +142,10 @@ area_word : (v : ℕ) (text : List ℕ) → IsAreaText v text → IsWord text
 area_word v text (m, h, e) = over_word 12 v 0x50 text m refl h e
 
 -- both sizes are words
-size_words : (kind : Kind) (d : plain.DeviceRow) (x y : List ℕ) → AreSizes kind d x y → IsWord x × IsWord y
-size_words Transistor d x y h = (length_word d.length x h.0, length_word d.width y h.1)
-size_words Resistor d x y h = (length_word d.length x h.0, length_word d.width y h.1)
-size_words Diode d x y h = (area_word d.width x h.0, length_word d.length y h.1)
+size_words : (kind : DeviceKind) (d : plain.DeviceRow) (x y : List ℕ) → AreSizes kind d x y → IsWord x × IsWord y
+size_words Mos4 d x y h = (length_word (first_size d) x h.0, length_word (second_size d) y h.1)
+size_words ResistorWithBulk d x y h = (length_word (first_size d) x h.0, length_word (second_size d) y h.1)
+size_words Diode d x y h = (area_word (second_size d) x h.0, length_word (first_size d) y h.1)
 
 -- ---- lines of names
 
@@ -147,86 +156,33 @@ nets_ends nets (n ∷ ns) rest ts h e =
     subst (λ (t : List ℕ). Ends (0x20 ∷ t) (token_of (name_at nets n) ∷ (map token_of (map (name_at nets) ns) ++ ts))) (sym (append_assoc (escaped (name_at nets n)) (nets_text nets ns) rest))
     (blank_word (escaped (name_at nets n)) (nets_text nets ns ++ rest) (map token_of (map (name_at nets) ns) ++ ts) (name_word (name_at nets n) h.0) (nets_ends nets ns rest ts h.1 e))
 
--- ---- classes
-
--- the class of a card, with the byte that shows its kind
-abbrev marked : Kind → List ℕ → List ℕ
-marked Transistor class = class
-marked Resistor class = resistor_class class
-marked Diode class = diode_class class
-
-class_kinds : (b : ℕ) (class : List ℕ) (r d : Bool) → (b == 1) ≡ r → (b == 2) ≡ d
-    → marked (kind_of (b ∷ class)) (shown_class (kind_of (b ∷ class)) (b ∷ class)) ≡ b ∷ class
-class_kinds b class true d e f = rw e (ap (λ (x : ℕ). x ∷ class) (sym (eqb-true b 1 e)))
-class_kinds b class false true e f = rw (e, f) (ap (λ (x : ℕ). x ∷ class) (sym (eqb-true b 2 f)))
-class_kinds b class false false e f = rw (e, f) refl
-
-class_back : (class : List ℕ) → marked (kind_of class) (shown_class (kind_of class) class) ≡ class
-class_back [] = refl
-class_back (b ∷ class) = class_kinds b class (b == 1) (b == 2) refl refl
-
-plain_kinds : (b : ℕ) (class : List ℕ) (r d : Bool) → (b == 1) ≡ r → (b == 2) ≡ d → kind_of (b ∷ class) ≡ Transistor → is_further_class (b ∷ class) ≡ false
-plain_kinds b class true d e f is = let bad : Resistor ≡ Transistor = (let s : kind_of (b ∷ class) ≡ Resistor = rw e refl in sym s ∙ is) in absurd cc
-plain_kinds b class false true e f is = let bad : Diode ≡ Transistor = (let s : kind_of (b ∷ class) ≡ Diode = rw (e, f) refl in sym s ∙ is) in absurd cc
-plain_kinds b class false false e f is = rw (e, f) refl
-
-plain_class : (class : List ℕ) → kind_of class ≡ Transistor → is_further_class class ≡ false
-plain_class [] is = refl
-plain_class (b ∷ class) is = plain_kinds b class (b == 1) (b == 2) refl refl is
-
--- a name behind its first byte
-behind_name : (n : List ℕ) → IsName n → 0 < length (drop 1 n) → IsName (drop 1 n)
-behind_name [] h some = absurd (omega arith)
-behind_name (b ∷ bs) h some = record {
-  some = some;
-  bytes = λ k l. h.bytes (suc k) (omega arith);
-  folded = let e : folded_byte b ∷ folded_bytes bs ≡ b ∷ bs = h.folded in cc;
-}
-
-shown_name : (kind : Kind) (d : plain.DeviceRow) → IsName d.class → FitsCard kind d → IsName (shown_class kind d.class)
-shown_name Transistor d h fits = h
-shown_name Resistor d h fits = behind_name d.class h fits.1
-shown_name Diode d h fits = behind_name d.class h fits.2
-
 -- ---- the line of a device
 
 -- a device with its nets by name
 abbrev pub device_card : List (List ℕ) → plain.DeviceRow → DeviceCard
-device_card nets d = record {
-  drain = name_at nets d.drain;
-  gate = name_at nets d.gate;
-  source = name_at nets d.source;
-  bulk = name_at nets d.bulk;
-  class = d.class;
-  length = d.length;
-  width = d.width;
-}
+device_card nets d = row_over (name_at nets) d
 
--- what is asked of a device of this kind, of its names and its sizes
-pub record IsCardable (kind : Kind) (limits : Option Limits) (nets : List (List ℕ)) (d : plain.DeviceRow) : Type 0 where
-  pub is : kind_of d.class ≡ kind
-  pub fits : FitsCard kind d
-  pub drain : IsName (name_at nets d.drain)
-  pub gate : IsName (name_at nets d.gate)
-  pub source : IsName (name_at nets d.source)
-  pub bulk : IsName (name_at nets d.bulk)
+-- what is asked of a device, of its names and its sizes
+pub record IsCardable (limits : Option Limits) (nets : List (List ℕ)) (d : plain.DeviceRow) : Type 0 where
+  pub formed : IsFormed d
+  pub named : (n : ℕ) → IsListed n (terminal_nets d) → IsName (name_at nets n)
   pub class : IsName d.class
-  pub length : d.length < 2 ^ 128
-  pub width : d.width < 2 ^ 128
-  pub under : AreSizesUnder kind limits d
+  pub model : rows.is_class d.kind d.class ≡ true
+  pub sizes : (first_size d < 2 ^ 128) × (second_size d < 2 ^ 128)
+  pub under : AreSizesUnder d.kind limits d
 
-abbrev size_tokens : Kind → List ℕ → List ℕ → List Token
-size_tokens kind x y = Word (first_key kind ∷ []) ∷ Equals ∷ Word x ∷ Word (second_key kind ∷ []) ∷ Equals ∷ Word y ∷ []
+abbrev size_tokens : DeviceKind → List ℕ → List ℕ → List Token
+size_tokens kind x y = Word (front_key kind ∷ []) ∷ Equals ∷ Word x ∷ Word (back_key kind ∷ []) ∷ Equals ∷ Word y ∷ []
 
-first_easy : (kind : Kind) → list_all is_easy (first_key kind ∷ []) ≡ true
-first_easy Transistor = refl
-first_easy Resistor = refl
-first_easy Diode = refl
+front_easy : (kind : DeviceKind) → list_all is_easy (front_key kind ∷ []) ≡ true
+front_easy Mos4 = refl
+front_easy ResistorWithBulk = refl
+front_easy Diode = refl
 
-second_easy : (kind : Kind) → list_all is_easy (second_key kind ∷ []) ≡ true
-second_easy Transistor = refl
-second_easy Resistor = refl
-second_easy Diode = refl
+back_easy : (kind : DeviceKind) → list_all is_easy (back_key kind ∷ []) ≡ true
+back_easy Mos4 = refl
+back_easy ResistorWithBulk = refl
+back_easy Diode = refl
 
 -- `K=value` behind a blank
 value_ends : (key : ℕ) (v rest : List ℕ) (ts : List Token) → list_all is_easy (key ∷ []) ≡ true → IsWord v → Ends rest ts
@@ -234,140 +190,136 @@ value_ends : (key : ℕ) (v rest : List ℕ) (ts : List Token) → list_all is_e
 value_ends key v rest ts easy h e =
     blank_word (key ∷ []) (0x3D ∷ (v ++ rest)) (Equals ∷ Word v ∷ ts) (easy_word (key ∷ []) (omega arith) easy) (equals_word v rest ts h e)
 
-sizes_ends : (kind : Kind) (class x y : List ℕ) → IsName class → IsWord x → IsWord y → Ends (sizes_text kind class x y) (token_of class ∷ size_tokens kind x y)
+sizes_ends : (kind : DeviceKind) (class x y : List ℕ) → IsName class → IsWord x → IsWord y → Ends (sizes_text kind class x y) (token_of class ∷ size_tokens kind x y)
 sizes_ends kind class x y hc hx hy =
-    let second = 0x20 ∷ second_key kind ∷ 0x3D ∷ (y ++ codes "\n") in
-    let last = value_ends (second_key kind) y (0x0A ∷ []) [] (second_easy kind) hy at_end in
-    let both = value_ends (first_key kind) x second (Word (second_key kind ∷ []) ∷ Equals ∷ Word y ∷ []) (first_easy kind) hx last in
-    blank_word (escaped class) (0x20 ∷ first_key kind ∷ 0x3D ∷ (x ++ second)) (size_tokens kind x y) (name_word class hc) both
+    let back = 0x20 ∷ back_key kind ∷ 0x3D ∷ (y ++ codes "\n") in
+    let last = value_ends (back_key kind) y (0x0A ∷ []) [] (back_easy kind) hy at_end in
+    let both = value_ends (front_key kind) x back (Word (back_key kind ∷ []) ∷ Equals ∷ Word y ∷ []) (front_easy kind) hx last in
+    blank_word (escaped class) (0x20 ∷ front_key kind ∷ 0x3D ∷ (x ++ back)) (size_tokens kind x y) (name_word class hc) both
 
-abbrev pub device_tokens : Kind → List (List ℕ) → ℕ → plain.DeviceRow → List ℕ → List ℕ → List Token
-device_tokens kind nets k d x y =
-    Word (letter kind ∷ decimal k) ∷ (map token_of (map (name_at nets) (card_nets kind d)) ++ token_of (shown_class kind d.class) ∷ size_tokens kind x y)
+abbrev pub device_tokens : List (List ℕ) → ℕ → plain.DeviceRow → List ℕ → List ℕ → List Token
+device_tokens nets k d x y =
+    Word (letter d.kind ∷ decimal k) ∷ (map token_of (map (name_at nets) (card_nets d)) ++ token_of d.class ∷ size_tokens d.kind x y)
 
 numbered_word : (b k : ℕ) → is_easy b ≡ true → IsWord (b ∷ decimal k)
 numbered_word b k h = easy_word (b ∷ decimal k) (omega arith) (rw h (decimal_easy k))
 
--- the names of a card's nets
-nets_named : (kind : Kind) (limits : Option Limits) (nets : List (List ℕ)) (d : plain.DeviceRow) → IsCardable kind limits nets d → AreNames (map (name_at nets) (card_nets kind d))
-nets_named Transistor limits nets d h = (h.drain, (h.gate, (h.source, (h.bulk, tt))))
-nets_named Resistor limits nets d h = (h.source, (h.drain, (h.bulk, tt)))
-nets_named Diode limits nets d h = (h.source, (h.gate, tt))
+-- a card has the nets of the terminals
+card_listed : (kind : DeviceKind) (ends : DeviceEnds ℕ) (others : List ℕ) (n : ℕ) → IsListed n (in_card_order kind ends others) → IsListed n (nets_of ends others)
+card_listed Mos4 ends others n h = h
+card_listed Diode ends others n h = h
+card_listed ResistorWithBulk NoEnds others n h = h
+card_listed ResistorWithBulk (Both a b) [] n (inl e) = inr (inl e)
+card_listed ResistorWithBulk (Both a b) [] n (inr (inl e)) = inl e
+card_listed ResistorWithBulk (Both a b) [] n (inr (inr e)) = absurd e
+card_listed ResistorWithBulk (Both a b) (m ∷ ms) n (inl e) = inr (inr (inl e))
+card_listed ResistorWithBulk (Both a b) (m ∷ ms) n (inr (inl e)) = inl e
+card_listed ResistorWithBulk (Both a b) (m ∷ ms) n (inr (inr (inl e))) = inr (inl e)
+card_listed ResistorWithBulk (Both a b) (m ∷ ms) n (inr (inr (inr e))) = inr (inr (inr e))
+
+nets_named : (limits : Option Limits) (nets : List (List ℕ)) (d : plain.DeviceRow) → IsCardable limits nets d → AreNames (map (name_at nets) (card_nets d))
+nets_named limits nets d h = names_from (name_at nets) (card_nets d) (λ n i. h.named n (card_listed d.kind d.ends d.others n i))
 
 -- a line that begins with the letter
-lettered : (kind : Kind) (k : ℕ) (rest : List ℕ) (ts : List Token) → Ends rest ts → IsLine (letter kind ∷ (decimal k ++ rest)) (Word (letter kind ∷ decimal k) ∷ ts)
-lettered Transistor k rest ts e = first_word 0x4D (decimal k) rest ts refl refl refl (numbered_word 0x4D k refl) e
-lettered Resistor k rest ts e = first_word 0x52 (decimal k) rest ts refl refl refl (numbered_word 0x52 k refl) e
+lettered : (kind : DeviceKind) (k : ℕ) (rest : List ℕ) (ts : List Token) → Ends rest ts → IsLine (letter kind ∷ (decimal k ++ rest)) (Word (letter kind ∷ decimal k) ∷ ts)
+lettered Mos4 k rest ts e = first_word 0x4D (decimal k) rest ts refl refl refl (numbered_word 0x4D k refl) e
+lettered ResistorWithBulk k rest ts e = first_word 0x52 (decimal k) rest ts refl refl refl (numbered_word 0x52 k refl) e
 lettered Diode k rest ts e = first_word 0x44 (decimal k) rest ts refl refl refl (numbered_word 0x44 k refl) e
 
-pub device_line : (limits : Option Limits) (kind : Kind) (nets : List (List ℕ)) (k : ℕ) (d : plain.DeviceRow) (x y : List ℕ) → IsCardable kind limits nets d → AreSizes kind d x y
-    → IsLine (device_text kind nets k d x y) (device_tokens kind nets k d x y)
-device_line limits kind nets k d x y h sizes =
-    let words = size_words kind d x y sizes in
-    let class = shown_class kind d.class in
-    let t = sizes_text kind class x y in
-    let last = sizes_ends kind class x y (shown_name kind d h.class h.fits) words.0 words.1 in
-    let ends = nets_ends nets (card_nets kind d) t (token_of class ∷ size_tokens kind x y) (nets_named kind limits nets d h) last in
-    subst (λ (s : List ℕ). IsLine s (device_tokens kind nets k d x y))
-    (ap (λ (s : List ℕ). letter kind ∷ s) (sym (append_assoc (decimal k) (nets_text nets (card_nets kind d)) t)))
-    (lettered kind k (nets_text nets (card_nets kind d) ++ t) (map token_of (map (name_at nets) (card_nets kind d)) ++ token_of class ∷ size_tokens kind x y) ends)
+pub device_line : (limits : Option Limits) (nets : List (List ℕ)) (k : ℕ) (d : plain.DeviceRow) (x y : List ℕ) → IsCardable limits nets d → AreSizes d.kind d x y
+    → IsLine (device_text nets k d x y) (device_tokens nets k d x y)
+device_line limits nets k d x y h sizes =
+    let words = size_words d.kind d x y sizes in
+    let t = sizes_text d.kind d.class x y in
+    let last = sizes_ends d.kind d.class x y h.class words.0 words.1 in
+    let ends = nets_ends nets (card_nets d) t (token_of d.class ∷ size_tokens d.kind x y) (nets_named limits nets d h) last in
+    subst (λ (s : List ℕ). IsLine s (device_tokens nets k d x y))
+    (ap (λ (s : List ℕ). letter d.kind ∷ s) (sym (append_assoc (decimal k) (nets_text nets (card_nets d)) t)))
+    (lettered d.kind k (nets_text nets (card_nets d) ++ t) (map token_of (map (name_at nets) (card_nets d)) ++ token_of d.class ∷ size_tokens d.kind x y) ends)
 
 -- ---- what its card says
 
-abbrev size_params : Kind → List ℕ → List ℕ → List Param
+abbrev size_params : DeviceKind → List ℕ → List ℕ → List Param
 size_params kind x y =
-    (let p : Param = record { key = first_key kind ∷ []; value = x } in p) ∷ (let p : Param = record { key = second_key kind ∷ []; value = y } in p) ∷ []
+    (let p : Param = record { key = front_key kind ∷ []; value = x } in p) ∷ (let p : Param = record { key = back_key kind ∷ []; value = y } in p) ∷ []
 
-abbrev sizes_are : plain.DeviceRow → Sizes
-sizes_are d = record { length = d.length; width = d.width }
-
-long_and_wide : (limits : Option Limits) (kind : Kind) (v w : ℕ) (x y : List ℕ) → is_diode kind ≡ false → value_of (length_limit limits) x ≡ Ok v → value_of (length_limit limits) y ≡ Ok w
-    → sizes_of limits kind (size_params Transistor x y) ≡ Ok (record { length = v; width = w })
-long_and_wide limits Transistor v w x y long e f =
-    ap (λ (r : Result ℕ ValueFault). and_then r (λ v. changed limits Transistor (record { length = v; width = 0 }) ((let p : Param = record { key = 0x57 ∷ []; value = y } in p) ∷ []))) e
-    ∙ ap (λ (r : Result ℕ ValueFault). and_then r (λ w. let z : Result Sizes ValueFault = Ok (record { length = v; width = w }) in z)) f
-long_and_wide limits Resistor v w x y long e f =
-    ap (λ (r : Result ℕ ValueFault). and_then r (λ v. changed limits Resistor (record { length = v; width = 0 }) ((let p : Param = record { key = 0x57 ∷ []; value = y } in p) ∷ []))) e
-    ∙ ap (λ (r : Result ℕ ValueFault). and_then r (λ w. let z : Result Sizes ValueFault = Ok (record { length = v; width = w }) in z)) f
-long_and_wide limits Diode v w x y long e f = absurd cc
+two_lengths : (limits : Option Limits) (kind : DeviceKind) (v w : ℕ) (x y : List ℕ) → has_area kind ≡ false → value_of (length_limit limits) x ≡ Ok v → value_of (length_limit limits) y ≡ Ok w
+    → sizes_of limits kind (size_params Mos4 x y) ≡ Ok (v ∷ w ∷ [])
+two_lengths limits Mos4 v w x y long e f =
+    ap (λ (r : Result ℕ ValueFault). and_then r (λ v. changed limits Mos4 v 0 ((let p : Param = record { key = 0x57 ∷ []; value = y } in p) ∷ []))) e
+    ∙ ap (λ (r : Result ℕ ValueFault). and_then r (λ w. let z : Result (List ℕ) ValueFault = Ok (v ∷ w ∷ []) in z)) f
+two_lengths limits ResistorWithBulk v w x y long e f =
+    ap (λ (r : Result ℕ ValueFault). and_then r (λ v. changed limits ResistorWithBulk v 0 ((let p : Param = record { key = 0x57 ∷ []; value = y } in p) ∷ []))) e
+    ∙ ap (λ (r : Result ℕ ValueFault). and_then r (λ w. let z : Result (List ℕ) ValueFault = Ok (v ∷ w ∷ []) in z)) f
+two_lengths limits Diode v w x y long e f = absurd cc
 
 area_and_border : (limits : Option Limits) (v w : ℕ) (x y : List ℕ) → area_of (area_limit limits) x ≡ Ok w → value_of (length_limit limits) y ≡ Ok v
-    → sizes_of limits Diode (size_params Diode x y) ≡ Ok (record { length = v; width = w })
+    → sizes_of limits Diode (size_params Diode x y) ≡ Ok (v ∷ w ∷ [])
 area_and_border limits v w x y e f =
-    ap (λ (r : Result ℕ ValueFault). and_then r (λ w. changed limits Diode (record { length = 0; width = w }) ((let p : Param = record { key = 0x50 ∷ []; value = y } in p) ∷ []))) e
-    ∙ ap (λ (r : Result ℕ ValueFault). and_then r (λ v. let z : Result Sizes ValueFault = Ok (record { length = v; width = w }) in z)) f
+    ap (λ (r : Result ℕ ValueFault). and_then r (λ w. changed limits Diode 0 w ((let p : Param = record { key = 0x50 ∷ []; value = y } in p) ∷ []))) e
+    ∙ ap (λ (r : Result ℕ ValueFault). and_then r (λ v. let z : Result (List ℕ) ValueFault = Ok (v ∷ w ∷ []) in z)) f
 
-sizes_back : (limits : Option Limits) (kind : Kind) (nets : List (List ℕ)) (d : plain.DeviceRow) (x y : List ℕ) → IsCardable kind limits nets d → AreSizes kind d x y
-    → sizes_of limits kind (size_params kind x y) ≡ Ok (sizes_are d)
-sizes_back limits Transistor nets d x y h sizes =
-    long_and_wide limits Transistor d.length d.width x y refl (length_back (length_limit limits) d.length x h.length (length_under limits Transistor d h.under) sizes.0)
-    (length_back (length_limit limits) d.width y h.width (width_under limits Transistor d refl h.under) sizes.1)
-sizes_back limits Resistor nets d x y h sizes =
-    long_and_wide limits Resistor d.length d.width x y refl (length_back (length_limit limits) d.length x h.length (length_under limits Resistor d h.under) sizes.0)
-    (length_back (length_limit limits) d.width y h.width (width_under limits Resistor d refl h.under) sizes.1)
-sizes_back limits Diode nets d x y h sizes =
-    area_and_border limits d.length d.width x y (area_text_back (area_limit limits) d.width x h.width (area_under limits d h.under) sizes.0)
-    (length_back (length_limit limits) d.length y h.length (length_under limits Diode d h.under) sizes.1)
+sizes_back : (limits : Option Limits) (kind : DeviceKind) (d : plain.DeviceRow) (x y : List ℕ) → (first_size d < 2 ^ 128) × (second_size d < 2 ^ 128) → AreSizesUnder kind limits d → AreSizes kind d x y
+    → sizes_of limits kind (size_params kind x y) ≡ Ok (first_size d ∷ second_size d ∷ [])
+sizes_back limits Mos4 d x y small under sizes =
+    two_lengths limits Mos4 (first_size d) (second_size d) x y refl (length_back (length_limit limits) (first_size d) x small.0 (first_under limits Mos4 d under) sizes.0)
+    (length_back (length_limit limits) (second_size d) y small.1 (second_under limits Mos4 d refl under) sizes.1)
+sizes_back limits ResistorWithBulk d x y small under sizes =
+    two_lengths limits ResistorWithBulk (first_size d) (second_size d) x y refl (length_back (length_limit limits) (first_size d) x small.0 (first_under limits ResistorWithBulk d under) sizes.0)
+    (length_back (length_limit limits) (second_size d) y small.1 (second_under limits ResistorWithBulk d refl under) sizes.1)
+sizes_back limits Diode d x y small under sizes =
+    area_and_border limits (first_size d) (second_size d) x y (area_text_back (area_limit limits) (second_size d) x small.1 (area_under limits d under) sizes.0)
+    (length_back (length_limit limits) (first_size d) y small.0 (first_under limits Diode d under) sizes.1)
 
 -- the names of a card, with its class
-abbrev card_names : Kind → List (List ℕ) → plain.DeviceRow → List (List ℕ)
-card_names kind nets d = map (name_at nets) (card_nets kind d) ++ shown_class kind d.class ∷ []
+abbrev card_names : List (List ℕ) → plain.DeviceRow → List (List ℕ)
+card_names nets d = map (name_at nets) (card_nets d) ++ d.class ∷ []
 
-formed : (kind : Kind) (nets : List (List ℕ)) (d : plain.DeviceRow) (x y : List ℕ) → kind_of d.class ≡ kind → rows.is_formed kind (card_names kind nets d) (size_params kind x y) ≡ true
-formed Transistor nets d x y is = rw (plain_class d.class is) refl
-formed Resistor nets d x y is = refl
-formed Diode nets d x y is = refl
+formed : (nets : List (List ℕ)) (d : plain.DeviceRow) (x y : List ℕ) → IsFormed d → rows.is_class d.kind d.class ≡ true → rows.is_formed d.kind (card_names nets d) (size_params d.kind x y) ≡ true
+formed nets d x y h =
+    by_shape (λ kind ends others. rows.is_class kind d.class ≡ true → rows.is_formed kind (map (name_at nets) (in_card_order kind ends others) ++ d.class ∷ []) (size_params kind x y) ≡ true)
+    (λ a b g k m. rw m refl) (λ a b k m. refl) (λ a c m. refl) d.kind d.ends d.others h.ends h.others
 
-passed : (kind : Kind) (x y : List ℕ) → list_any (is_refused kind) (size_params kind x y) ≡ false
-passed Transistor x y = refl
-passed Resistor x y = refl
+passed : (kind : DeviceKind) (x y : List ℕ) → list_any (is_refused kind) (size_params kind x y) ≡ false
+passed Mos4 x y = refl
+passed ResistorWithBulk x y = refl
 passed Diode x y = refl
 
-marked_back : (kind : Kind) (class : List ℕ) → kind_of class ≡ kind → marked kind (shown_class kind class) ≡ class
-marked_back kind class is = subst (λ (k : Kind). marked k (shown_class k class) ≡ class) is (class_back class)
-
-said : (kind : Kind) (n : ℕ) (nets : List (List ℕ)) (d : plain.DeviceRow) → kind_of d.class ≡ kind → FitsCard kind d
-    → rows.device_of n 1 kind (card_names kind nets d) (Ok (sizes_are d)) ≡ Ok (Device (device_card nets d) 1)
-said Transistor n nets d is fits = refl
-said Resistor n nets d is fits =
-    let class = marked_back Resistor d.class is in
-    let gate : d.bulk ≡ d.gate = sym fits.0 in
-    ap (λ (c : List ℕ). let r : Result CardRow SpiceFault = Ok (Device (rows.device_card (name_at nets d.drain) (name_at nets d.bulk) (name_at nets d.source) (name_at nets d.bulk) c (sizes_are d)) 1) in r) class
-    ∙ ap (λ (g : ℕ). let r : Result CardRow SpiceFault = Ok (Device (rows.device_card (name_at nets d.drain) (name_at nets g) (name_at nets d.source) (name_at nets d.bulk) d.class (sizes_are d)) 1) in r) gate
-said Diode n nets d is fits =
-    let class = marked_back Diode d.class is in
-    let drain : d.source ≡ d.drain = fits.0 in
-    let bulk : d.gate ≡ d.bulk = fits.1 in
-    ap (λ (c : List ℕ). let r : Result CardRow SpiceFault = Ok (Device (rows.device_card (name_at nets d.source) (name_at nets d.gate) (name_at nets d.source) (name_at nets d.gate) c (sizes_are d)) 1) in r) class
-    ∙ ap (λ (g : ℕ). let r : Result CardRow SpiceFault = Ok (Device (rows.device_card (name_at nets g) (name_at nets d.gate) (name_at nets d.source) (name_at nets d.gate) d.class (sizes_are d)) 1) in r) drain
-    ∙ ap (λ (g : ℕ). let r : Result CardRow SpiceFault = Ok (Device (rows.device_card (name_at nets d.drain) (name_at nets d.gate) (name_at nets d.source) (name_at nets g) d.class (sizes_are d)) 1) in r) bulk
+said : (nets : List (List ℕ)) (d : plain.DeviceRow) → IsFormed d → rows.card_of d.kind (card_names nets d) d.sizes ≡ Some (device_card nets d)
+said nets d h =
+    by_shape (λ kind ends others. rows.card_of kind (map (name_at nets) (in_card_order kind ends others) ++ d.class ∷ []) d.sizes
+    ≡ Some (record { kind = kind; class = d.class; sizes = d.sizes; ends = ends_over (name_at nets) ends; others = map (name_at nets) others }))
+    (λ a b g k. refl) (λ a b k. refl) (λ a c. refl) d.kind d.ends d.others h.ends h.others
 
 -- the words of a card before its parameters
-begins_card : (kind : Kind) (limits : Option Limits) (n : ℕ) (open_too : Bool) (nets : List (List ℕ)) (k : ℕ) (d : plain.DeviceRow) (x y : List ℕ)
-    → card_row limits n open_too (device_tokens kind nets k d x y) ≡ rows.device_row limits kind n (names_of (map escaped (card_names kind nets d))) (size_params kind x y)
-begins_card Transistor limits n open_too nets k d x y = refl
-begins_card Resistor limits n open_too nets k d x y = refl
-begins_card Diode limits n open_too nets k d x y = refl
+begins_card : (limits : Option Limits) (n : ℕ) (open_too : Bool) (nets : List (List ℕ)) (k : ℕ) (d : plain.DeviceRow) (x y : List ℕ) → IsFormed d
+    → card_row limits n open_too (device_tokens nets k d x y) ≡ rows.device_row limits d.kind n (names_of (map escaped (card_names nets d))) (size_params d.kind x y)
+begins_card limits n open_too nets k d x y h =
+    by_shape (λ kind ends others.
+    card_row limits n open_too (Word (letter kind ∷ decimal k) ∷ (map token_of (map (name_at nets) (in_card_order kind ends others)) ++ token_of d.class ∷ size_tokens kind x y))
+    ≡ rows.device_row limits kind n (names_of (map escaped (map (name_at nets) (in_card_order kind ends others) ++ d.class ∷ []))) (size_params kind x y))
+    (λ a b g k. refl) (λ a b k. refl) (λ a c. refl) d.kind d.ends d.others h.ends h.others
 
-names_known : (kind : Kind) (limits : Option Limits) (nets : List (List ℕ)) (d : plain.DeviceRow) → IsCardable kind limits nets d → names_of (map escaped (card_names kind nets d)) ≡ Some (card_names kind nets d)
-names_known kind limits nets d h =
-    names_back (card_names kind nets d) (names_append (map (name_at nets) (card_nets kind d)) (shown_class kind d.class ∷ []) (nets_named kind limits nets d h) (shown_name kind d h.class h.fits, tt))
+names_known : (limits : Option Limits) (nets : List (List ℕ)) (d : plain.DeviceRow) → IsCardable limits nets d → names_of (map escaped (card_names nets d)) ≡ Some (card_names nets d)
+names_known limits nets d h =
+    names_back (card_names nets d) (names_append (map (name_at nets) (card_nets d)) (d.class ∷ []) (nets_named limits nets d h) (h.class, tt))
 
-one_copy : (kind : Kind) (x y : List ℕ) → copies_of (size_params kind x y) ≡ 1
-one_copy Transistor x y = refl
-one_copy Resistor x y = refl
+one_copy : (kind : DeviceKind) (x y : List ℕ) → copies_of (size_params kind x y) ≡ 1
+one_copy Mos4 x y = refl
+one_copy ResistorWithBulk x y = refl
 one_copy Diode x y = refl
 
-pub device_said : (limits : Option Limits) (n : ℕ) (open_too : Bool) (nets : List (List ℕ)) (k : ℕ) (kind : Kind) (d : plain.DeviceRow) (x y : List ℕ) → IsCardable kind limits nets d → AreSizes kind d x y
-    → card_row limits n open_too (device_tokens kind nets k d x y) ≡ Ok (Device (device_card nets d) 1)
-device_said limits n open_too nets k kind d x y h sizes =
-    let ps = size_params kind x y in
-    let names = card_names kind nets d in
-    begins_card kind limits n open_too nets k d x y
-    ∙ taken limits kind n (names_of (map escaped names)) names ps (names_known kind limits nets d h) (formed kind nets d x y h.is) (passed kind x y)
-    ∙ ap (λ (c : ℕ). rows.device_of n c kind names (sizes_of limits kind ps)) (one_copy kind x y)
-    ∙ ap (λ (r : Result Sizes ValueFault). rows.device_of n 1 kind names r) (sizes_back limits kind nets d x y h sizes)
-    ∙ said kind n nets d h.is h.fits
+pub device_said : (limits : Option Limits) (n : ℕ) (open_too : Bool) (nets : List (List ℕ)) (k : ℕ) (d : plain.DeviceRow) (x y : List ℕ) → IsCardable limits nets d → AreSizes d.kind d x y
+    → card_row limits n open_too (device_tokens nets k d x y) ≡ Ok (Device (device_card nets d) 1)
+device_said limits n open_too nets k d x y h sizes =
+    let ps = size_params d.kind x y in
+    let names = card_names nets d in
+    begins_card limits n open_too nets k d x y h.formed
+    ∙ taken limits d.kind n (names_of (map escaped names)) names ps (names_known limits nets d h) (formed nets d x y h.formed h.model) (passed d.kind x y)
+    ∙ ap (λ (c : ℕ). rows.device_of n c d.kind names (sizes_of limits d.kind ps)) (one_copy d.kind x y)
+    ∙ ap (λ (r : Result (List ℕ) ValueFault). rows.device_of n 1 d.kind names r) (sizes_back limits d.kind d x y h.sizes h.under sizes)
+    ∙ ap (λ (ss : List ℕ). rows.copies_said n 1 (rows.card_of d.kind names ss)) (sym (two_are d.sizes h.formed.sizes))
+    ∙ ap (λ (o : Option DeviceCard). rows.copies_said n 1 o) (said nets d h.formed)
 
 -- ---- names alone
 

@@ -9,6 +9,7 @@ use Rattle.std.proofs.lemmas.Slice.Eq.{bytes_eq-Decides}
 use Rattle.fixed_num.specs.Microns.{IsMicrons}
 use Rattle.net_names.specs.Folding.{folded_bytes}
 use Rattle.net_model.specs.Faults as model
+use Rattle.plain_netlist.specs.Devices.{IsFormed}
 use Rattle.plain_netlist.specs.Lists.{AreApart}
 use Rattle.plain_netlist.specs.Netlist.{DeviceRow, CallRow, Circuit, IsCircuit, IsDevice}
 use Rattle.plain_netlist.specs.Normal.{appearances, IsNormalCircuit, IsNormalNetlist}
@@ -16,11 +17,11 @@ use Rattle.plain_netlist.specs.Sound.{IsGood, IsSoundNetlist, AreCallsFitting, N
 use Rattle.plain_netlist.proofs.Heights.{no_fault_in_good}
 use Rattle.plain_netlist.proofs.Listing.{apart_at}
 use Rattle.plain_netlist.proofs.Numbered.{normal_nets, numbered}
-use Rattle.spice_rows.specs.Params.{Transistor}
+use Rattle.spice_rows.specs.Rows.{is_class}
 use Rattle.spice_text.specs.Laws.{IsName, IsWritable, IsWithin, IsWithinFor}
 use Rattle.spice_text.specs.Sample.{limits, transistor, cell, call, caller, sample, sample_text, SampleLaw}
 use Rattle.spice_text.specs.Written.{circuit_text, device_text, IsWritten}
-use Rattle.spice_text.specs.Cards.{FitsCard, kind_of}
+use Rattle.spice_text.specs.Cards.{first_size, second_size}
 use Rattle.spice_text.proofs.AgainLemmas.{written_means}
 use Rattle.spice_text.proofs.PinLemmas.{apart_of}
 use Rattle.spice_text.proofs.RowLemmas.{AreNames}
@@ -113,13 +114,13 @@ writable = record {
       (name_of_place cell.nets (name_is (codes "D") (omega arith) refl refl, (name_is (codes "G$2") (omega arith) refl refl, (name_is (codes "S") (omega arith) refl refl, (name_is (codes "B") (omega arith) refl refl, tt)))))
       (name_of_place caller.nets (name_is (codes "N") (omega arith) refl refl, tt)) t c is n name;
   classes = device_at (λ d. IsName d.class) (name_is (codes "NMOS") (omega arith) refl refl);
-  cards = λ t c is i d at. device_at (λ d. FitsCard (kind_of d.class) d) tt t i d (c, is, at);
-  lengths = device_at (λ d. d.length < 2 ^ 128) (omega arith);
-  widths = device_at (λ d. d.width < 2 ^ 128) (omega arith);
+  models = device_at (λ d. is_class d.kind d.class ≡ true) refl;
+  formed = device_at (λ d. IsFormed d) (record { ends = refl; others = refl; sizes = refl });
+  sizes = device_at (λ d. (first_size d < 2 ^ 128) × (second_size d < 2 ^ 128)) (omega arith, omega arith);
 }
 
 within : IsWithin limits sample
-within = device_at (λ d. IsWithinFor (kind_of d.class) limits d) (omega arith, omega arith)
+within = device_at (λ d. IsWithinFor d.kind limits d) (omega arith, omega arith)
 
 -- ---- the text
 
@@ -136,7 +137,7 @@ unfolding digits
 two_microns = record { fraction = []; spelled = refl; rest = record { digits = refl; worth = refl; last = no_last } }
 
 abbrev line : List ℕ
-line = device_text Transistor cell.nets 1 transistor (codes "1U") (codes "2U")
+line = device_text cell.nets 1 transistor (codes "1U") (codes "2U")
 
 abbrev first : List ℕ
 first = circuit_text sample.circuits cell (line ++ [])

@@ -12,7 +12,6 @@ use Rattle.spice_rows.specs.Names.{are_apart}
 use Rattle.spice_rows.specs.Rows.{Opens, Ends as EndsRow, Device, Call, DeviceCard, CallCard}
 use Rattle.spice_rows.specs.Sizes.{Limits}
 use Rattle.spice_text.specs.Gather.{Circuit, Cards, no_cards, begun, reading, reading_of, early_or}
-use Rattle.spice_text.specs.Cards.{kind_of}
 use Rattle.spice_text.specs.Laws.{IsName}
 use Rattle.spice_text.specs.Written.{nets_text, name_in, IsDeviceText, call_text, calls_text, AreTexts, AreOneByOne, IsCircuitText, IsWritten}
 use Rattle.spice_text.proofs.ReadLemmas.{line_of, IsLine, Reads, no_text, one_more, one_line}
@@ -52,7 +51,7 @@ pub record IsReadable (limit : Option Limits) (cs : List plain.Circuit) (c : pla
   pub name : IsName c.name
   pub pins : AreNames (map (name_at c.nets) c.pins)
   pub apart : are_apart (map (name_at c.nets) c.pins) ≡ true
-  pub devices : (d : plain.DeviceRow) → IsListed d c.devices → IsCardable (kind_of d.class) limit c.nets d
+  pub devices : (d : plain.DeviceRow) → IsListed d c.devices → IsCardable limit c.nets d
   pub calls : (r : plain.CallRow) → IsListed r c.calls → AreNames (map (name_at c.nets) r.nets) × IsName (name_in (slice_get cs r.circuit))
 
 -- ---- between cards
@@ -69,7 +68,7 @@ abbrev holding : Circuit → List DeviceCard → List CallCard → Circuit
 holding c ds rs = record { line = c.line; name = c.name; pins = c.pins; devices = ds; calls = rs }
 
 devices_read : (limit : Option Limits) (nets : List (List ℕ)) (ds : List plain.DeviceRow) (k n m : ℕ) (cs : List Circuit) (c : Circuit) (front all : List DeviceCard) (text : List ℕ)
-    → ((d : plain.DeviceRow) → IsListed d ds → IsCardable (kind_of d.class) limit nets d) → AreTexts (IsDeviceText nets) k ds text → m ≡ n + length ds → all ≡ front ++ map (device_card nets) ds
+    → ((d : plain.DeviceRow) → IsListed d ds → IsCardable limit nets d) → AreTexts (IsDeviceText nets) k ds text → m ≡ n + length ds → all ≡ front ++ map (device_card nets) ds
     → Reads limit n m (inside cs (holding c front c.calls)) (inside cs (holding c all c.calls)) text
 devices_read limit nets [] k n m cs c front all text good h em ea =
     subst (λ (t : List ℕ). Reads limit n m (inside cs (holding c front c.calls)) (inside cs (holding c all c.calls)) t) (sym h)
@@ -78,10 +77,9 @@ devices_read limit nets [] k n m cs c front all text good h em ea =
     (no_text limit n (inside cs (holding c front c.calls)))))
 devices_read limit nets (d ∷ ds) k n m cs c front all text good (a, (x, y, sizes, ea_text), b, behind_it, e) em ea =
     let ok = good d (inl refl) in
-    let kind = kind_of d.class in
-    let line : IsLine a (device_tokens kind nets k d x y) = subst (λ (t : List ℕ). IsLine t (device_tokens kind nets k d x y)) (sym ea_text) (device_line limit kind nets k d x y ok sizes) in
+    let line : IsLine a (device_tokens nets k d x y) = subst (λ (t : List ℕ). IsLine t (device_tokens nets k d x y)) (sym ea_text) (device_line limit nets k d x y ok sizes) in
     let next = front ++ device_card nets d ∷ [] in
-    let one = one_line limit n (inside cs (holding c front c.calls)) (Device (device_card nets d) 1) a (device_tokens kind nets k d x y) line (device_said limit n true nets k kind d x y ok sizes) tt in
+    let one = one_line limit n (inside cs (holding c front c.calls)) (Device (device_card nets d) 1) a (device_tokens nets k d x y) line (device_said limit n true nets k d x y ok sizes) tt in
     let more = devices_read limit nets ds (k + 1) (n + 1) m cs c next all b (λ x i. good x (inr i)) behind_it (omega arith)
     (ea ∙ sym (append_assoc front (device_card nets d ∷ []) (map (device_card nets) ds))) in
     subst (λ (t : List ℕ). Reads limit n m (inside cs (holding c front c.calls)) (inside cs (holding c all c.calls)) t) (sym e)

@@ -1,10 +1,9 @@
 -- One text more.
 use Rattle.std.proofs.Common.{◌≡◌, ℕ, zero, suc, ◌+◌, List, [], ◌∷◌, ◌++◌, map, drop, length, ◌<◌, Option, Some, slice_get, refl, sym, subst, ap, ◌∙◌, append_assoc, arith}
 use Rattle.std.proofs.lemmas.List.{append-nil, drop_more}
-use Rattle.std.specs.Prelude.{get_or}
+use Rattle.std.specs.Prelude.{get_or, slice_index}
+use Rattle.fixed_num.specs.declared.femto.Femto.{Femto}
 use Rattle.plain_netlist.specs.Netlist.{DeviceRow}
-use Rattle.spice_rows.specs.Params.{Kind, Transistor, Resistor, Diode}
-use Rattle.spice_text.specs.Cards.{FitsCard, HasShown, kind_of, shown_class}
 use Rattle.spice_text.specs.Written.{AreTexts, AreOneByOne, AreSizes, IsDeviceText, device_nets_text, device_text, sizes_text, Adds, HasWritten}
 
 pub start : (Whole : List ℕ → Type 0) (out : List ℕ) → HasWritten Whole Whole out out
@@ -40,13 +39,15 @@ at_place f (y ∷ ys) (suc i) x lt e = at_place f ys i x (omega arith) e
 
 -- ---- a device
 
-pub has_shown : (kind : Kind) (d : DeviceRow) → FitsCard kind d → HasShown kind d.class
-has_shown Transistor d fits = tt
-has_shown Resistor d fits = fits.1
-has_shown Diode d fits = fits.2
+pub device : (nets : List (List ℕ)) (k : ℕ) (d : DeviceRow) (x y before mid after : List ℕ) → AreSizes d.kind d x y
+    → mid ≡ before ++ device_nets_text nets k d → after ≡ mid ++ sizes_text d.kind d.class x y → Adds (IsDeviceText nets k d) before after
+device nets k d x y before mid after sizes e f =
+    let t = f ∙ ap (λ (m : List ℕ). m ++ sizes_text d.kind d.class x y) e ∙ append_assoc before (device_nets_text nets k d) (sizes_text d.kind d.class x y) in
+    (device_text nets k d x y, t, (x, y, sizes, refl))
 
-pub device : (kind : Kind) (nets : List (List ℕ)) (k : ℕ) (d : DeviceRow) (x y before mid after : List ℕ) → kind ≡ kind_of d.class → AreSizes kind d x y
-    → mid ≡ before ++ device_nets_text kind nets k d → after ≡ mid ++ sizes_text kind (shown_class kind d.class) x y → Adds (IsDeviceText nets k d) before after
-device kind nets k d x y before mid after is sizes e f =
-    let t = f ∙ ap (λ (m : List ℕ). m ++ sizes_text kind (shown_class kind d.class) x y) e ∙ append_assoc before (device_nets_text kind nets k d) (sizes_text kind (shown_class kind d.class) x y) in
-    (device_text kind nets k d x y, t, (x, y, subst (λ (j : Kind). AreSizes j d x y) is sizes, ap (λ (j : Kind). device_text j nets k d x y) is))
+-- ---- sizes
+
+pub size_is : (ss : List Femto) (k : ℕ) → (get_or ss k (record { 0 = 0 })).0 ≡ slice_index (map (λ (f : Femto). f.0) ss) k
+size_is [] k = refl
+size_is (s ∷ ss) zero = refl
+size_is (s ∷ ss) (suc k) = size_is ss k

@@ -1,5 +1,4 @@
 pub mod Gather
-pub mod Kept
 pub mod Circuits
 pub mod Faults
 pub mod Search

@@ -3,6 +3,7 @@ use Rattle.std.specs.Prelude.{◌≡◌, ◌⊎◌, ℕ, ◌+◌, ◌<◌, List,
 use Rattle.std.specs.Prelude.{Option, None, Ok, Err}
 use Rattle.text_table.specs.Texts.{place_of}
 use Rattle.call_order.specs.Order.{ReachesItself}
+use Rattle.plain_netlist.specs.Devices.{row_over as device_over}
 use Rattle.plain_netlist.specs.Netlist as plain
 use Rattle.spice_rows.specs.Rows.{DeviceCard, CallCard}
 use Rattle.spice_rows.specs.Sizes.{Limits}
@@ -19,7 +20,7 @@ abbrev pub call_names : List (List ℕ) → (ℕ → List (List ℕ)) → CallCa
 call_names names needed r = r.nets ++ needed (called_in names r)
 
 -- the names of a circuit's nets as they appear: its pins, the global names that it needs, those of
--- its devices (drain, gate, source, bulk), those of its calls
+-- its devices, those of its calls
 abbrev pub appearances : List (List ℕ) → (ℕ → List (List ℕ)) → ℕ → Circuit → List (List ℕ)
 appearances names needed k c =
     c.pins ++ (needed k ++ (flat_map device_nets c.devices
@@ -30,15 +31,7 @@ net_names names needed k c = first_seen [] (appearances names needed k c)
 
 -- a device with its nets by number
 abbrev pub device_row : List (List ℕ) → DeviceCard → plain.DeviceRow
-device_row nets d = record {
-  class = d.class;
-  length = d.length;
-  width = d.width;
-  source = place_of nets d.source;
-  gate = place_of nets d.gate;
-  drain = place_of nets d.drain;
-  bulk = place_of nets d.bulk;
-}
+device_row nets d = device_over (place_of nets) d
 
 abbrev pub call_row : List (List ℕ) → (ℕ → List (List ℕ)) → List (List ℕ) → CallCard → plain.CallRow
 call_row names needed nets r = record {

@@ -4,6 +4,7 @@ use Rattle.std.specs.Prelude.{◌≡◌, ◌⊎◌, ℕ, Bool, true, false, List
 use Rattle.std.specs.Prelude.{◌<◌, length, slice_get, Option, Some, None}
 use Rattle.std.specs.List.{All}
 use Rattle.plain_netlist.specs.Chains.{IsChain}
+use Rattle.plain_netlist.specs.Devices.{terminal_nets}
 use Rattle.call_order.specs.Order.{Calls}
 use Rattle.text_table.specs.Texts.{has_text, with_text}
 use Rattle.spice_rows.specs.Rows.{DeviceCard, CallCard}
@@ -19,9 +20,8 @@ first_seen seen (n ∷ ns) = first_seen (with_text seen n) ns
 abbrev pub HaveBytes : List (List ℕ) → Type 0
 HaveBytes names = All (λ name. 0 < length name) names
 
--- the nets of a transistor in the order of its card
 abbrev pub device_nets : DeviceCard → List (List ℕ)
-device_nets d = d.drain ∷ d.gate ∷ d.source ∷ d.bulk ∷ []
+device_nets d = terminal_nets d
 
 abbrev pub call_nets : CallCard → List (List ℕ)
 call_nets r = r.nets

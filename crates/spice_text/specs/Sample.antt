@@ -1,5 +1,7 @@
 -- A netlist with a transistor and a call, carried through what the laws of written texts ask.
 use Rattle.std.specs.Prelude.{◌^◌, ◌*◌, ℕ, List, [], ◌∷◌, ◌++◌, None, codes}
+use Rattle.plain_netlist.specs.declared.kinds.DeviceKind.TheVariants.{Mos4}
+use Rattle.plain_netlist.specs.Devices.{Both}
 use Rattle.plain_netlist.specs.Netlist.{DeviceRow, CallRow, Circuit, Netlist}
 use Rattle.plain_netlist.specs.Normal.{IsNormalNetlist}
 use Rattle.plain_netlist.specs.Sound.{IsSoundNetlist}
@@ -15,13 +17,11 @@ limits = record { length = 10 ^ 18; area = 10 ^ 30 }
 -- one micrometre long, two wide
 abbrev pub transistor : DeviceRow
 transistor = record {
+  kind = Mos4;
   class = codes "NMOS";
-  length = 10 ^ 9;
-  width = 2 * 10 ^ 9;
-  source = 2;
-  gate = 1;
-  drain = 0;
-  bulk = 3;
+  sizes = 10 ^ 9 ∷ 2 * 10 ^ 9 ∷ [];
+  ends = Both 2 0;
+  others = 1 ∷ 3 ∷ [];
 }
 
 abbrev pub cell : Circuit

@@ -4,8 +4,10 @@ use Rattle.std.specs.Prelude.{slice_get, codes, decimal}
 use Rattle.fixed_num.specs.Microns.{IsMicrons, IsSquareMicrons}
 use Rattle.net_names.specs.Escapes.{escaped}
 use Rattle.plain_netlist.specs.Netlist.{DeviceRow, CallRow, Circuit, Netlist}
-use Rattle.spice_rows.specs.Params.{Kind, Diode}
-use Rattle.spice_text.specs.Cards.{kind_of, shown_class, letter, card_nets, first_key, second_key}
+use Rattle.plain_netlist.specs.declared.kinds.DeviceKind.{DeviceKind}
+use Rattle.plain_netlist.specs.declared.kinds.DeviceKind.TheVariants.{Diode}
+use Rattle.spice_rows.specs.Kinds.{card_nets, letter}
+use Rattle.spice_text.specs.Cards.{back_key, first_size, front_key, second_size}
 
 abbrev pub or_empty : Option (List ℕ) → List ℕ
 or_empty None = []
@@ -24,8 +26,8 @@ name_in None = []
 name_in (Some c) = c.name
 
 -- `Mk`, `Rk` or `Dk` and the nets
-abbrev pub device_nets_text : Kind → List (List ℕ) → ℕ → DeviceRow → List ℕ
-device_nets_text kind names k d = letter kind ∷ (decimal k ++ nets_text names (card_nets kind d))
+abbrev pub device_nets_text : List (List ℕ) → ℕ → DeviceRow → List ℕ
+device_nets_text names k d = letter d.kind ∷ (decimal k ++ nets_text names (card_nets d))
 
 -- a length in micrometres, an area in square micrometres
 abbrev pub IsLengthText : ℕ → List ℕ → Type 0
@@ -35,26 +37,24 @@ abbrev pub IsAreaText : ℕ → List ℕ → Type 0
 IsAreaText v text = (m : List ℕ) × IsSquareMicrons v m × (text ≡ m ++ codes "P")
 
 -- the two sizes: of a diode its area and its perimeter
-abbrev pub AreSizes : Kind → DeviceRow → List ℕ → List ℕ → Type 0
-AreSizes Diode d first second = IsAreaText d.width first × IsLengthText d.length second
-AreSizes kind d first second = IsLengthText d.length first × IsLengthText d.width second
+abbrev pub AreSizes : DeviceKind → DeviceRow → List ℕ → List ℕ → Type 0
+AreSizes Diode d front back = IsAreaText (second_size d) front × IsLengthText (first_size d) back
+AreSizes kind d front back = IsLengthText (first_size d) front × IsLengthText (second_size d) back
 
 -- ` CLASS L=lU W=wU` or ` CLASS A=aP P=pU`
-abbrev pub sizes_text : Kind → List ℕ → List ℕ → List ℕ → List ℕ
-sizes_text kind class first second =
-    0x20 ∷ (escaped class ++ (0x20 ∷ first_key kind ∷ 0x3D ∷ (first
-    ++ (0x20 ∷ second_key kind ∷ 0x3D ∷ (second ++ codes "\n")))))
+abbrev pub sizes_text : DeviceKind → List ℕ → List ℕ → List ℕ → List ℕ
+sizes_text kind class front back =
+    0x20 ∷ (escaped class ++ (0x20 ∷ front_key kind ∷ 0x3D ∷ (front
+    ++ (0x20 ∷ back_key kind ∷ 0x3D ∷ (back ++ codes "\n")))))
 
 -- the line of a device
-abbrev pub device_text : Kind → List (List ℕ) → ℕ → DeviceRow → List ℕ → List ℕ → List ℕ
-device_text kind names k d first second =
-    device_nets_text kind names k d ++ sizes_text kind (shown_class kind d.class) first second
+abbrev pub device_text : List (List ℕ) → ℕ → DeviceRow → List ℕ → List ℕ → List ℕ
+device_text names k d front back =
+    device_nets_text names k d ++ sizes_text d.kind d.class front back
 
--- by the kind that its class shows
 abbrev pub IsDeviceText : List (List ℕ) → ℕ → DeviceRow → List ℕ → Type 0
-IsDeviceText names k d text = (first : List ℕ) × (second : List ℕ)
-    × AreSizes (kind_of d.class) d first second
-    × (text ≡ device_text (kind_of d.class) names k d first second)
+IsDeviceText names k d text = (front : List ℕ) × (back : List ℕ)
+    × AreSizes d.kind d front back × (text ≡ device_text names k d front back)
 
 -- `Xk nets circuit`
 abbrev pub call_text : List Circuit → List (List ℕ) → ℕ → CallRow → List ℕ

@@ -11,12 +11,12 @@ ghost use Rattle.spice_text.specs.Means.{row_over, rows_from};
 ghost use Rattle.spice_text.specs.Seen.{circuit_seen};
 
 use crate::gather::CircuitCards;
-use crate::kept::KeptDevice;
 use crate::nets::{Nets, row_at};
 use crate::numbers::{call_rows, device_rows, net_numbers};
 use list_base::number;
 use net_model::{CallRow, Circuit};
 use net_names::Name;
+use spice_rows::DeviceCard;
 use std::alloc::{AllocError, Global};
 use text_table::TextTable;
 
@@ -92,7 +92,7 @@ fn joined_by(
 fn circuit_on(
     alloc: Global,
     name: Name,
-    devices: Vec<KeptDevice>,
+    devices: Vec<DeviceCard>,
     nets: Nets,
     joined: Joined,
 ) -> Result<Circuit, AllocError>

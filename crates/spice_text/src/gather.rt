@@ -2,12 +2,10 @@
 
 ghost use Rattle.std.specs.Prelude.{◌≡◌, ◌++◌, IfErr, IfOk, OnOk, replicate};
 ghost use Rattle.spice_rows.specs.Sizes.{read_limit};
-ghost use Rattle.spice_rows.specs.Seen.{device_seen};
 ghost use Rattle.spice_text.specs.Gather.{begun, reading_of};
 ghost use Rattle.spice_text.specs.Seen.{circuit_seen, cards_seen, SaysFault};
 ghost use Rattle.std.specs.Prelude.{codes, [], Ok};
 
-use crate::kept::KeptDevice;
 use net_names::Name;
 use spice_cards::CardReader;
 use spice_rows::{CallCard, CardRow, DeviceCard, SpiceFault, read_card};
@@ -19,7 +17,7 @@ pub struct CircuitCards {
     pub line: u64,
     pub name: Name,
     pub pins: Vec<Name>,
-    pub devices: Vec<KeptDevice>,
+    pub devices: Vec<DeviceCard>,
     pub calls: Vec<CallCard>,
 }
 
@@ -56,23 +54,26 @@ fn top(alloc: Global, line: u64) -> Result<CircuitCards, AllocError>
 // So many equal devices, one after another.
 fn push_devices(
     alloc: Global,
-    out: &mut Vec<KeptDevice>,
+    out: &mut Vec<DeviceCard>,
     device: DeviceCard,
     copies: u32,
 ) -> Result<(), AllocError>
-    ensures { OnOk result (out.new.items
-        ≡ out.old.items ++ replicate copies (device_seen device)) }
+    ensures { OnOk result (out.new.items ≡ out.old.items ++ replicate copies device) }
 {
-    'copies: for _copy in 0..copies {
-        out.push(KeptDevice::new(alloc, &device)?)?;
+    if copies == 0 {
+        return Ok(());
     }
+    'copies: for _copy in 0..copies - 1 {
+        out.push(device.try_clone(alloc)?)?;
+    }
+    out.push(device)?;
     Ok(())
 }
 
 impl Gathered {
     ghost use Rattle.std.specs.Prelude.{◌≡◌, OnOk};
     ghost use Rattle.spice_rows.specs.Rows as rows;
-    ghost use Rattle.spice_rows.specs.Seen.{row_seen, device_seen, call_seen};
+    ghost use Rattle.spice_rows.specs.Seen.{row_seen, call_seen};
     ghost use Rattle.spice_text.specs.Gather.{no_cards, with_row};
     ghost use Rattle.spice_text.specs.Seen.{cards_seen};
 
@@ -95,7 +96,7 @@ impl Gathered {
         copies: u32,
     ) -> Result<(), AllocError>
         ensures { OnOk result (cards_seen self.new
-            ≡ with_row (cards_seen self.old) line (rows.Device (device_seen device) copies)) }
+            ≡ with_row (cards_seen self.old) line (rows.Device device copies)) }
     {
         if let Some(circuit) = &mut self.open_one {
             return push_devices(alloc, &mut circuit.devices, device, copies);

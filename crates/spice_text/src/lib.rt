@@ -4,9 +4,7 @@
 mod calls;
 mod circuits;
 mod faults;
-mod fits;
 mod gather;
-mod kept;
 mod laws;
 mod needs;
 mod nets;
@@ -15,7 +13,6 @@ mod ordered;
 mod read;
 mod write;
 
-pub use fits::fits_cards;
 pub use laws::{written_laws, written_sample};
 pub use read::read_spice;
 pub use spice_rows::SpiceFault;

@@ -14,11 +14,10 @@ ghost use Rattle.spice_text.specs.Table.{IsNeedTable};
 ghost use Rattle.spice_text.specs.Seen.{circuit_seen};
 
 use crate::gather::CircuitCards;
-use crate::kept::KeptDevice;
 use crate::nets::{Nets, row_at};
 use list_base::number;
 use net_names::Name;
-use spice_rows::CallCard;
+use spice_rows::{CallCard, DeviceCard};
 use std::alloc::{AllocError, Global};
 use text_table::TextTable;
 
@@ -74,21 +73,21 @@ fn push_all(out: &mut Vec<u32>, globals: &TextTable, names: &[Name]) -> Result<(
     Ok(())
 }
 
-fn push_device(out: &mut Vec<u32>, globals: &TextTable, d: &KeptDevice) -> Result<(), AllocError>
+fn push_device(out: &mut Vec<u32>, globals: &TextTable, d: &DeviceCard) -> Result<(), AllocError>
     requires { length globals.now < 2 ^ 32 }
     ensures { OnOk result (out.new.items
         ≡ with_numbers globals.now out.old.items (device_nets d.now)) }
 {
-    push_number(out, globals, d.drain())?;
-    push_number(out, globals, d.gate())?;
-    push_number(out, globals, d.source())?;
-    push_number(out, globals, d.bulk())
+    'nets: for place in 0..d.kind().terminals() {
+        push_number(out, globals, d.net(place))?;
+    }
+    Ok(())
 }
 
 fn push_devices(
     out: &mut Vec<u32>,
     globals: &TextTable,
-    devices: &[KeptDevice],
+    devices: &[DeviceCard],
 ) -> Result<(), AllocError>
     requires { length globals.now < 2 ^ 32 }
     ensures { OnOk result (out.new.items

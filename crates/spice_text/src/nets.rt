@@ -7,9 +7,8 @@ ghost use Rattle.spice_rows.specs.Seen.{call_seen};
 ghost use Rattle.spice_text.specs.Needs.{first_seen, device_nets, HaveBytes};
 ghost use Rattle.spice_text.specs.Table.{picked, needed_of, seen_with_needs};
 
-use crate::kept::KeptDevice;
 use net_names::Name;
-use spice_rows::CallCard;
+use spice_rows::{CallCard, DeviceCard};
 use std::alloc::{AllocError, Global};
 use text_table::TextTable;
 
@@ -92,19 +91,19 @@ impl Nets {
         Ok(())
     }
 
-    fn see_device(&mut self, alloc: Global, d: &KeptDevice) -> Result<(), AllocError>
+    fn see_device(&mut self, alloc: Global, d: &DeviceCard) -> Result<(), AllocError>
         requires { HaveBytes self.old.table }
         ensures table { OnOk result
             (self.new.table ≡ first_seen self.old.table (device_nets d.now)) }
         ensures names { OnOk result (HaveBytes self.new.table) }
     {
-        self.see(alloc, d.drain())?;
-        self.see(alloc, d.gate())?;
-        self.see(alloc, d.source())?;
-        self.see(alloc, d.bulk())
+        'nets: for place in 0..d.kind().terminals() {
+            self.see(alloc, d.net(place))?;
+        }
+        Ok(())
     }
 
-    pub fn see_devices(&mut self, alloc: Global, devices: &[KeptDevice]) -> Result<(), AllocError>
+    pub fn see_devices(&mut self, alloc: Global, devices: &[DeviceCard]) -> Result<(), AllocError>
         requires { HaveBytes self.old.table }
         ensures table { OnOk result (self.new.table
             ≡ first_seen self.old.table (flat_map device_nets devices.now)) }

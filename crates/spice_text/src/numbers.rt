@@ -1,6 +1,8 @@
-//! Transistors and calls with their nets by number.
+//! Devices and calls with their nets by number.
 
-ghost use Rattle.std.specs.Prelude.{◌≡◌, ◌++◌, ◌<◌, ◌^◌, map, length, IfOk, OnOk};
+ghost use Rattle.std.specs.Prelude.{◌≡◌, ◌++◌, ◌<◌, ◌^◌, map, take, length, IfOk, OnOk};
+ghost use Rattle.plain_netlist.specs.Devices.{terminal_nets};
+ghost use Rattle.plain_netlist.specs.Kinds.{terminal_count};
 ghost use Rattle.text_table.specs.Texts.{place_of};
 ghost use Rattle.call_order.specs.Order.{lists};
 ghost use Rattle.net_model.specs.Rows.{plain_device, plain_call};
@@ -8,11 +10,10 @@ ghost use Rattle.spice_rows.specs.Seen.{call_seen};
 ghost use Rattle.spice_text.specs.Table.{picked, needed_of};
 ghost use Rattle.spice_text.specs.Means.{device_row, call_row};
 
-use crate::kept::KeptDevice;
 use crate::nets::row_at;
 use net_model::{CallRow, DeviceRow};
 use net_names::Name;
-use spice_rows::CallCard;
+use spice_rows::{CallCard, DeviceCard};
 use std::alloc::{AllocError, Global};
 use text_table::TextTable;
 
@@ -73,18 +74,28 @@ pub fn net_numbers(
     Ok(out)
 }
 
-fn device_row(alloc: Global, nets: &TextTable, d: &KeptDevice) -> Result<DeviceRow, AllocError>
+// The numbers of a device's nets, and 0 behind them.
+fn terminal_numbers(nets: &TextTable, d: &DeviceCard) -> [u32; 4]
+    requires { length nets.now < 2 ^ 32 }
+    ensures { take (terminal_count d.now.kind) result
+        ≡ map (place_of nets.now) (terminal_nets d.now) }
+{
+    let mut numbers = [0; 4];
+    'nets: for place in 0..d.kind().terminals() {
+        numbers[place] = number(nets, d.net(place));
+    }
+    numbers
+}
+
+fn device_row(alloc: Global, nets: &TextTable, d: &DeviceCard) -> Result<DeviceRow, AllocError>
     requires { length nets.now < 2 ^ 32 }
     ensures { IfOk result (λ row. plain_device row ≡ device_row nets.now d.now) }
 {
     Ok(DeviceRow {
+        kind: d.kind(),
         class: Name::from_vec(d.class().to_vec(alloc)?),
-        length: d.length(),
-        width: d.width(),
-        source: number(nets, d.source()),
-        gate: number(nets, d.gate()),
-        drain: number(nets, d.drain()),
-        bulk: number(nets, d.bulk()),
+        sizes: d.sizes(),
+        nets: terminal_numbers(nets, d),
     })
 }
 
@@ -92,7 +103,7 @@ fn device_row(alloc: Global, nets: &TextTable, d: &KeptDevice) -> Result<DeviceR
 pub fn device_rows(
     alloc: Global,
     nets: &TextTable,
-    devices: Vec<KeptDevice>,
+    devices: Vec<DeviceCard>,
 ) -> Result<Vec<DeviceRow>, AllocError>
     requires { length nets.now < 2 ^ 32 }
     ensures { IfOk result (λ rows. map plain_device rows.items

@@ -5,9 +5,8 @@ ghost use Rattle.std.specs.Prelude.{slice_get};
 ghost use Rattle.net_names.specs.Escapes.{escaped};
 ghost use Rattle.net_model.specs.Rows.{plain_device, plain_call, plain_circuit, plain_netlist};
 ghost use Rattle.plain_netlist.specs.Netlist.{DeviceRow as PlainDevice};
-ghost use Rattle.spice_rows.specs.Seen.{kind_seen};
-ghost use Rattle.spice_text.specs.Cards.{FitsCard, FitDevices, FitCircuits, FitCards, HasShown};
-ghost use Rattle.spice_text.specs.Cards.{kind_of, shown_class, letter, first_key, second_key};
+ghost use Rattle.spice_rows.specs.Kinds.{card_nets};
+ghost use Rattle.spice_text.specs.Cards.{back_key, front_key};
 ghost use Rattle.spice_text.specs.Written.{net_text, nets_text, IsDeviceText, AreSizes};
 ghost use Rattle.spice_text.specs.Written.{call_text, calls_text, AreTexts, AreOneByOne};
 ghost use Rattle.spice_text.specs.Written.{device_nets_text, sizes_text, circuit_text};
@@ -17,7 +16,8 @@ ghost use Rattle.spice_text.specs.Written.{IsCircuitText, IsWritten, Adds, name_
 use fixed_num::{Femto, area_text, micron_text};
 use net_model::{CallRow, Circuit, DeviceRow, Netlist};
 use net_names::{Name, escape};
-use spice_rows::Kind;
+use plain_netlist::DeviceKind;
+use spice_rows::{first_key, letter, second_key};
 use std::alloc::{AllocError, Global};
 
 fn push_name(alloc: Global, out: &mut Vec<u8>, name: &Name) -> Result<(), AllocError>
@@ -62,82 +62,54 @@ fn push_number(alloc: Global, out: &mut Vec<u8>, n: usize) -> Result<(), AllocEr
     Ok(())
 }
 
-/// The kind of device that a class shows.
-pub fn kind_of(class: &Name) -> Kind
-    ensures { kind_seen result ≡ kind_of class.now }
+// The nets in the order of the card: of a resistor its two ends stand first.
+fn push_card_nets(
+    alloc: Global,
+    out: &mut Vec<u8>,
+    nets: &[Name],
+    d: &DeviceRow,
+) -> Result<(), AllocError>
+    ensures { OnOk result (out.new.items ≡ out.old.items
+        ++ nets_text nets.now (card_nets (plain_device d.now))) }
 {
-    let [first, ..] = class.bytes() else {
-        return Kind::Transistor;
-    };
-    if *first == 1 {
-        return Kind::Resistor;
-    }
-    if *first == 2 {
-        return Kind::Diode;
-    }
-    Kind::Transistor
-}
-
-fn letter(kind: Kind) -> u8
-    ensures { result ≡ letter (kind_seen kind) }
-{
-    match kind {
-        Kind::Transistor => b'M',
-        Kind::Resistor => b'R',
-        Kind::Diode => b'D',
+    match d.kind {
+        DeviceKind::ResistorWithBulk => {
+            push_nets(alloc, out, nets, &[d.nets[2], d.nets[0], d.nets[1]])
+        }
+        _ => push_nets(alloc, out, nets, d.terminal_nets()),
     }
 }
 
 fn push_device_nets(
     alloc: Global,
     out: &mut Vec<u8>,
-    kind: Kind,
     nets: &[Name],
     k: usize,
     d: &DeviceRow,
 ) -> Result<(), AllocError>
     ensures { OnOk result (out.new.items ≡ out.old.items
-        ++ device_nets_text (kind_seen kind) nets.now k (plain_device d.now)) }
+        ++ device_nets_text nets.now k (plain_device d.now)) }
 {
-    out.push(letter(kind))?;
+    out.push(letter(d.kind))?;
     push_number(alloc, out, k)?;
+    push_card_nets(alloc, out, nets, d)
+}
+
+fn front_key(kind: DeviceKind) -> u8
+    ensures { result ≡ front_key kind }
+{
     match kind {
-        Kind::Transistor => push_nets(alloc, out, nets, &[d.drain, d.gate, d.source, d.bulk]),
-        Kind::Resistor => push_nets(alloc, out, nets, &[d.source, d.drain, d.bulk]),
-        Kind::Diode => push_nets(alloc, out, nets, &[d.source, d.gate]),
+        DeviceKind::Diode => second_key(kind),
+        _ => first_key(kind),
     }
 }
 
-// The class as a card has it.
-fn push_class(alloc: Global, out: &mut Vec<u8>, kind: Kind, class: &Name) -> Result<(), AllocError>
-    requires { HasShown (kind_seen kind) class.now }
-    ensures { OnOk result
-        (out.new.items ≡ out.old.items ++ escaped (shown_class (kind_seen kind) class.now)) }
+fn back_key(kind: DeviceKind) -> u8
+    ensures { result ≡ back_key kind }
 {
     match kind {
-        Kind::Transistor => push_name(alloc, out, class),
-        _ => {
-            let shown = Name::from_vec(class.bytes()[1..].to_vec(alloc)?);
-            push_name(alloc, out, &shown)
-        }
-    }
-}
-
-fn first_key(kind: Kind) -> u8
-    ensures { result ≡ first_key (kind_seen kind) }
-{
-    match kind {
-        Kind::Diode => b'A',
-        _ => b'L',
-    }
-}
-
-fn second_key(kind: Kind) -> u8
-    ensures { result ≡ second_key (kind_seen kind) }
-{
-    match kind {
-        Kind::Diode => b'P',
-        _ => b'W',
+        DeviceKind::Diode => first_key(kind),
+        _ => second_key(kind),
     }
 }
 
@@ -156,19 +128,18 @@ fn push_value(out: &mut Vec<u8>, key: u8, value: &[u8]) -> Result<(), AllocError
 fn push_sizes(
     alloc: Global,
     out: &mut Vec<u8>,
-    kind: Kind,
+    kind: DeviceKind,
     class: &Name,
-    first: &[u8],
-    second: &[u8],
+    front: &[u8],
+    back: &[u8],
 ) -> Result<(), AllocError>
-    requires { HasShown (kind_seen kind) class.now }
-    ensures { OnOk result (out.new.items ≡ out.old.items ++ sizes_text (kind_seen kind)
-        (shown_class (kind_seen kind) class.now) first.now second.now) }
+    ensures { OnOk result
+        (out.new.items ≡ out.old.items ++ sizes_text kind class.now front.now back.now) }
 {
     out.push(b' ')?;
-    push_class(alloc, out, kind, class)?;
-    push_value(out, first_key(kind), first)?;
-    push_value(out, second_key(kind), second)?;
+    push_name(alloc, out, class)?;
+    push_value(out, front_key(kind), front)?;
+    push_value(out, back_key(kind), back)?;
     out.push(b'\n')?;
     Ok(())
 }
@@ -190,15 +161,16 @@ fn area_in_text(alloc: Global, area: u128) -> Result<Vec<u8>, AllocError>
 }
 
 // The two sizes as the card has them: of a diode its area and its perimeter.
-fn size_texts(alloc: Global, kind: Kind, d: &DeviceRow) -> Result<(Vec<u8>, Vec<u8>), AllocError>
-    ensures { IfOk result (λ texts. AreSizes (kind_seen kind) (plain_device d.now) texts.0.items
+fn size_texts(alloc: Global, d: &DeviceRow) -> Result<(Vec<u8>, Vec<u8>), AllocError>
+    ensures { IfOk result (λ texts. AreSizes d.now.kind (plain_device d.now) texts.0.items
         texts.1.items) }
 {
-    let length = length_text(alloc, d.length)?;
-    match kind {
-        Kind::Transistor => Ok((length, length_text(alloc, d.width)?)),
-        Kind::Resistor => Ok((length, length_text(alloc, d.width)?)),
-        Kind::Diode => Ok((area_in_text(alloc, d.width.0)?, length)),
+    let [first, second] = d.sizes;
+    let length = length_text(alloc, first)?;
+    match d.kind {
+        DeviceKind::Mos4 => Ok((length, length_text(alloc, second)?)),
+        DeviceKind::ResistorWithBulk => Ok((length, length_text(alloc, second)?)),
+        DeviceKind::Diode => Ok((area_in_text(alloc, second.0)?, length)),
     }
 }
 
@@ -209,14 +181,12 @@ fn write_device(
     k: usize,
     d: &DeviceRow,
 ) -> Result<(), AllocError>
-    requires { FitsCard (kind_of d.now.class) (plain_device d.now) }
     ensures { OnOk result
         (Adds (IsDeviceText nets.now k (plain_device d.now)) out.old.items out.new.items) }
 {
-    let kind = kind_of(&d.class);
-    let (first, second) = size_texts(alloc, kind, d)?;
-    push_device_nets(alloc, out, kind, nets, k, d)?;
-    push_sizes(alloc, out, kind, &d.class, &first, &second)
+    let (front, back) = size_texts(alloc, d)?;
+    push_device_nets(alloc, out, nets, k, d)?;
+    push_sizes(alloc, out, d.kind, &d.class, &front, &back)
 }
 
 fn write_devices(
@@ -225,7 +195,6 @@ fn write_devices(
     nets: &[Name],
     devices: &[DeviceRow],
 ) -> Result<(), AllocError>
-    requires { FitDevices (map plain_device devices.now) }
     ensures { OnOk result
         (Adds (AreTexts (IsDeviceText nets.now) 1 (map plain_device devices.now))
         out.old.items out.new.items) }
@@ -318,7 +287,6 @@ fn write_circuit(
     circuits: &[Circuit],
     c: &Circuit,
 ) -> Result<(), AllocError>
-    requires { FitDevices (map plain_device c.now.devices.items) }
     ensures { OnOk result
         (Adds (IsCircuitText (map plain_circuit circuits.now) (plain_circuit c.now))
         out.old.items out.new.items) }
@@ -330,7 +298,6 @@ fn write_circuit(
 }
 
 fn write_circuits(alloc: Global, out: &mut Vec<u8>, circuits: &[Circuit]) -> Result<(), AllocError>
-    requires { FitCircuits (map plain_circuit circuits.now) }
     ensures { OnOk result
         (Adds (AreOneByOne (IsCircuitText (map plain_circuit circuits.now))
         (map plain_circuit circuits.now)) out.old.items out.new.items) }
@@ -343,10 +310,8 @@ fn write_circuits(alloc: Global, out: &mut Vec<u8>, circuits: &[Circuit]) -> Res
 
 /// The SPICE text of a netlist: a comment, for each circuit its pins, its devices and its calls,
 /// and `.END`. Names are escaped, sizes are in micrometres, a diode's area in square micrometres.
-/// A class that begins with byte 1 is a resistor's, with byte 2 a diode's; it is written without
-/// that byte. Linear in the text.
+/// Linear in the text.
 pub fn write_spice(alloc: Global, n: &Netlist) -> Result<Vec<u8>, AllocError>
-    requires { FitCards (plain_netlist n.now) }
     ensures { IfOk result (λ text. IsWritten (plain_netlist n.now) text.items) }
 {
     let mut out = Vec::new(alloc);

@@ -5,8 +5,8 @@ use Rattle.std.specs.Prelude.{flat_map}
 use Rattle.std.proofs.Math.Decide.{ℕ_discrete}
 use Rattle.std.proofs.lemmas.Option.{same_Some, slice_get_within}
 use Rattle.flat_layout.specs.Circuits.{AreCircuitCells, CircuitParts, IsCallOf, IsCircuitCell, IsCircuitOf, IsNetlistOf, drawn_nets, pin_nets}
-use Rattle.flat_layout.specs.Gates.{Rule, width_of}
-use Rattle.flat_layout.specs.GateTables.{GateEntry, good_gates, terminal_net}
+use Rattle.flat_layout.specs.Gates.{Rule, sizes_of}
+use Rattle.flat_layout.specs.GateTables.{GateEntry, device_by, good_gates}
 use Rattle.flat_layout.specs.Layout.{Design, Place, IsHeight, IsReached}
 use Rattle.flat_layout.specs.Nets.{AreNets, Child, IsItemLink, Tables}
 use Rattle.flat_layout.specs.Order.{IsCellBefore}
@@ -14,23 +14,28 @@ use Rattle.flat_layout.specs.Pins.{CellPins, IsNetOf}
 use Rattle.flat_layout.specs.Regions.{Wiring}
 use Rattle.flat_layout.specs.Values.{AreDrawnBelow, CellCircuit, IsCellCircuitOf, IsCircuitOr}
 use Rattle.flat_laws.proofs.Cover.{reached_below}
+use Rattle.flat_laws.proofs.Devices.{OnNets, over_reversed}
 use Rattle.flat_laws.proofs.Planned.{cell_not_before, item_at, at_true}
 use Rattle.plain_netlist.proofs.Links.{stays}
 use Rattle.plain_netlist.proofs.Listing.{apart_at, one_rising, rising_apart}
 use Rattle.plain_netlist.proofs.Members.{listed, position}
+use Rattle.plain_netlist.proofs.Rows.{carried_row, over_through, over_wider, row_over_self}
 use Rattle.plain_netlist.specs.Lists.{AreApart, IsListed}
-use Rattle.plain_netlist.specs.Netlist.{CallRow, Circuit, DeviceRow, Netlist, Pole, Source, Gate, Drain, Bulk, on, IsCircuit}
-use Rattle.plain_netlist.specs.Normal.{AreNumbered, appearances, terminal_nets}
+use Rattle.plain_netlist.specs.Devices.{AreEndsJoined, AreJoined, Both, Ends, IsRowOver, NoEnds, Row, nets_of, terminal_nets}
+use Rattle.plain_netlist.specs.Flats.{Reversed}
+use Rattle.plain_netlist.specs.Netlist.{CallRow, Circuit, DeviceRow, Netlist, IsCircuit}
+use Rattle.plain_netlist.specs.Normal.{AreNumbered, appearances}
 use Rattle.table_laws.specs.TableLaws.{CircuitsTogetherLaw, OneCircuitLaw}
 use Rattle.table_laws.proofs.Drawing.{drawn_together}
 use Rattle.table_laws.proofs.Tabled.{reached_under}
 
--- two lists of numbers name, place by place, the same items of two lists
+-- two numbers name one item of two lists
+abbrev IsOneName : List ℕ → List ℕ → ℕ → ℕ → Type 0
+IsOneName nets more x y = (s : ℕ) × (slice_get nets x ≡ Some s) × (slice_get more y ≡ Some s)
+
+-- and two lists of numbers, place by place
 abbrev NameSame : List ℕ → List ℕ → List ℕ → List ℕ → Type 0
-NameSame nets more [] [] = Unit {0}
-NameSame nets more [] (y ∷ ys) = ⊥
-NameSame nets more (x ∷ xs) [] = ⊥
-NameSame nets more (x ∷ xs) (y ∷ ys) = ((s : ℕ) × (slice_get nets x ≡ Some s) × (slice_get more y ≡ Some s)) × NameSame nets more xs ys
+NameSame nets more xs ys = AreJoined (IsOneName nets more) xs ys
 
 join_same : (nets more xs ys us vs : List ℕ) → NameSame nets more xs ys → NameSame nets more us vs → NameSame nets more (xs ++ us) (ys ++ vs)
 join_same nets more [] [] us vs h g = g
@@ -44,14 +49,24 @@ by_place nets more [] (y ∷ ys) e all = absurd (omega arith)
 by_place nets more (x ∷ xs) [] e all = absurd (omega arith)
 by_place nets more (x ∷ xs) (y ∷ ys) e all = (all 0 x y refl refl, by_place nets more xs ys (omega arith) (λ i u v h g. all (suc i) u v h g))
 
-by_device : (nets more : List ℕ) (xs ys : List DeviceRow) → length xs ≡ length ys → ((i : ℕ) (x y : DeviceRow) (pole : Pole) → slice_get xs i ≡ Some x → slice_get ys i ≡ Some y → (s : ℕ) × (slice_get nets (on pole x) ≡ Some s) × (slice_get more (on pole y) ≡ Some s))
+nets_joined : {N M : Type 0} (net : N → M → Type 0) (d : Ends N) (e : Ends M) (ns : List N) (ms : List M) → AreEndsJoined net d e → AreJoined net ns ms → AreJoined net (nets_of d ns) (nets_of e ms)
+nets_joined net NoEnds NoEnds ns ms h g = g
+nets_joined net (Both a b) (Both c f) [] [] h g = (h.1, (h.0, tt))
+nets_joined net (Both a b) (Both c f) (n ∷ ns) (m ∷ ms) h g = (h.1, (g.0, (h.0, g.1)))
+nets_joined net (Both a b) (Both c f) [] (m ∷ ms) h g = absurd g
+nets_joined net (Both a b) (Both c f) (n ∷ ns) [] h g = absurd g
+nets_joined net NoEnds (Both c f) ns ms h g = absurd h
+nets_joined net (Both a b) NoEnds ns ms h g = absurd h
+
+by_device : (nets more : List ℕ) (xs ys : List DeviceRow) → length xs ≡ length ys → ((i : ℕ) (x y : DeviceRow) → slice_get xs i ≡ Some x → slice_get ys i ≡ Some y → IsRowOver (IsOneName nets more) x y)
     → NameSame nets more (flat_map terminal_nets xs) (flat_map terminal_nets ys)
 by_device nets more [] [] e all = tt
 by_device nets more [] (y ∷ ys) e all = absurd (omega arith)
 by_device nets more (x ∷ xs) [] e all = absurd (omega arith)
 by_device nets more (x ∷ xs) (y ∷ ys) e all =
-    join_same nets more (terminal_nets x) (terminal_nets y) (flat_map terminal_nets xs) (flat_map terminal_nets ys) (all 0 x y Drain refl refl, (all 0 x y Gate refl refl, (all 0 x y Source refl refl, (all 0 x y Bulk refl refl, tt))))
-    (by_device nets more xs ys (omega arith) (λ i u v pole h g. all (suc i) u v pole h g))
+    let o = all 0 x y refl refl in
+    join_same nets more (terminal_nets x) (terminal_nets y) (flat_map terminal_nets xs) (flat_map terminal_nets ys) (nets_joined (IsOneName nets more) x.ends y.ends x.others y.others o.ends o.others)
+    (by_device nets more xs ys (omega arith) (λ i u v h g. all (suc i) u v h g))
 
 abbrev nets_in : CallRow → List ℕ
 nets_in r = r.nets
@@ -79,16 +94,6 @@ one_numbering nets more one two m n next (x ∷ xs) (y ∷ ys) ((s, hx, hy), res
     let e : x ≡ y = apart_at s more x y two (sym (agree x h.0) ∙ hx) hy in let lt = h.0 in let f = g.0 in absurd (omega arith)
 one_numbering nets more one two m n next (x ∷ xs) (y ∷ ys) ((s, hx, hy), rest) (inr h) (inl g) agree =
     let e : x ≡ y = apart_at s nets x y one hx (agree y g.0 ∙ hy) in let lt = g.0 in let f = h.0 in absurd (omega arith)
-
-row_is : (a b : DeviceRow) → a.class ≡ b.class → a.length ≡ b.length → a.width ≡ b.width → ((pole : Pole) → on pole a ≡ on pole b) → a ≡ b
-row_is a b c l w p =
-    ap (λ (v : List ℕ). let r : DeviceRow = record { class = v; length = a.length; width = a.width; source = a.source; gate = a.gate; drain = a.drain; bulk = a.bulk } in r) c
-    ∙ ap (λ (v : ℕ). let r : DeviceRow = record { class = b.class; length = v; width = a.width; source = a.source; gate = a.gate; drain = a.drain; bulk = a.bulk } in r) l
-    ∙ ap (λ (v : ℕ). let r : DeviceRow = record { class = b.class; length = b.length; width = v; source = a.source; gate = a.gate; drain = a.drain; bulk = a.bulk } in r) w
-    ∙ ap (λ (v : ℕ). let r : DeviceRow = record { class = b.class; length = b.length; width = b.width; source = v; gate = a.gate; drain = a.drain; bulk = a.bulk } in r) (p Source)
-    ∙ ap (λ (v : ℕ). let r : DeviceRow = record { class = b.class; length = b.length; width = b.width; source = b.source; gate = v; drain = a.drain; bulk = a.bulk } in r) (p Gate)
-    ∙ ap (λ (v : ℕ). let r : DeviceRow = record { class = b.class; length = b.length; width = b.width; source = b.source; gate = b.gate; drain = v; bulk = a.bulk } in r) (p Drain)
-    ∙ ap (λ (v : ℕ). let r : DeviceRow = record { class = b.class; length = b.length; width = b.width; source = b.source; gate = b.gate; drain = b.drain; bulk = v } in r) (p Bulk)
 
 call_is : (a b : CallRow) → a.circuit ≡ b.circuit → a.nets ≡ b.nets → a ≡ b
 call_is a b c n = ap (λ (v : ℕ). let r : CallRow = record { circuit = v; nets = a.nets } in r) c ∙ ap (λ (v : List ℕ). let r : CallRow = record { circuit = b.circuit; nets = v } in r) n
@@ -120,18 +125,29 @@ module _ (d : Design) (w : Wiring) (t : Tables) (gates : ℕ → List GateEntry)
       (λ k l. (b.has_calls.placements k).1 ((a.has_calls.placements k).0 l)) (λ k l. (a.has_calls.placements k).1 ((b.has_calls.placements k).0 l))
 
   -- the i-th calls of both are of one placement
-  record Both (p q : CircuitParts) (row other : CallRow) : Type 0 where
+  record BothCalls (p q : CircuitParts) (row other : CallRow) : Type 0 where
     number : ℕ
     place : Place
     one : IsCallOf t pins drawn cells cell number place p.nets row
     two : IsCallOf t pins drawn cells cell number place q.nets other
 
-  both_calls : (p q : CircuitParts) (c e : Circuit) → Is p c → Is q e → (i : ℕ) (row other : CallRow) → slice_get c.calls i ≡ Some row → slice_get e.calls i ≡ Some other → Both p q row other
+  both_calls : (p q : CircuitParts) (c e : Circuit) → Is p c → Is q e → (i : ℕ) (row other : CallRow) → slice_get c.calls i ≡ Some row → slice_get e.calls i ≡ Some other → BothCalls p q row other
   both_calls p q c e a b i row other h g =
       let k = item_at c.calls p.calls i row (sym a.has_calls.count) h in
       let too : slice_get q.calls i ≡ Some k.0 = subst (λ (l : List ℕ). slice_get l i ≡ Some k.0) (calls_same p q c e a b) k.1 in
       let pl = (a.has_calls.placements k.0).0 (listed p.calls i k.0 k.1) in
       record { number = k.0; place = pl.0; one = a.has_calls.each i k.0 pl.0 row k.1 pl.1 h; two = b.has_calls.each i k.0 pl.0 other too pl.1 g }
+
+  -- the i-th devices of both are of one gate
+  both_devices : (p q : CircuitParts) (c e : Circuit) → Is p c → Is q e → (i : ℕ) (x y : DeviceRow) → slice_get c.devices i ≡ Some x → slice_get e.devices i ≡ Some y → IsRowOver (IsOneName p.nets q.nets) x y
+  both_devices p q c e a b i x y h g =
+      let s = item_at c.devices (good_gates (gates cell)) i x (sym a.has_devices.count) h in
+      let k = a.has_devices.each i s.0 x s.1 h in
+      let j = b.has_devices.each i s.0 y s.1 g in
+      let same : j.rule ≡ k.rule = (let u = k.is in let v = j.is in cc) in
+      let own : Rule → Row ℕ = λ u. device_by u (sizes_of u unit s.0.row.twice_w s.0.row.twice_l) s.0.row in
+      let other : IsRowOver (OnNets q.nets) (own k.rule) y = subst (λ u. IsRowOver (OnNets q.nets) (own u) y) same j.over in
+      over_through (Reversed (OnNets p.nets)) (OnNets q.nets) x (own k.rule) y (over_reversed (OnNets p.nets) (own k.rule) x k.over) other
 
   abbrev pin_list : List ℕ
   pin_list = pin_nets (pins cell) (drawn cell)
@@ -147,9 +163,7 @@ module _ (d : Design) (w : Wiring) (t : Tables) (gates : ℕ → List GateEntry)
           (s.0, subst (λ k. slice_get p.nets k ≡ Some s.0) (sym (a.normal.pins i x h)) (a.has_pins.each i s.0 s.1), subst (λ k. slice_get q.nets k ≡ Some s.0) (sym (b.normal.pins i y g)) (b.has_pins.each i s.0 s.1)))
 
       of_devices : NameSame p.nets q.nets (flat_map terminal_nets c.devices) (flat_map terminal_nets e.devices)
-      of_devices = by_device p.nets q.nets c.devices e.devices (a.has_devices.count ∙ sym b.has_devices.count) (λ i x y pole h g.
-          let s = item_at c.devices (good_gates (gates cell)) i x (sym a.has_devices.count) h in
-          (terminal_net pole s.0.row, (a.has_devices.each i s.0 x s.1 h).poles pole, (b.has_devices.each i s.0 y s.1 g).poles pole))
+      of_devices = by_device p.nets q.nets c.devices e.devices (a.has_devices.count ∙ sym b.has_devices.count) (both_devices p q c e a b)
 
       of_calls : NameSame p.nets q.nets (flat_map nets_in c.calls) (flat_map nets_in e.calls)
       of_calls = by_call p.nets q.nets c.calls e.calls (a.has_calls.count ∙ ap (λ (l : List ℕ). length l) (calls_same p q c e a b) ∙ sym b.has_calls.count) (λ i x y h g.
@@ -170,12 +184,8 @@ module _ (d : Design) (w : Wiring) (t : Tables) (gates : ℕ → List GateEntry)
   module _ (p : CircuitParts) (c e : Circuit) (a : Is p c) (b : Is p e) where
     devices_same : c.devices ≡ e.devices
     devices_same = one_list c.devices e.devices (a.has_devices.count ∙ sym b.has_devices.count) (λ i x y h g.
-        let s = item_at c.devices (good_gates (gates cell)) i x (sym a.has_devices.count) h in
-        let k = a.has_devices.each i s.0 x s.1 h in
-        let j = b.has_devices.each i s.0 y s.1 g in
-        let same : k.rule ≡ j.rule = (let u = k.is in let v = j.is in cc) in
-        row_is x y (k.class ∙ ap (λ (r : Rule). r.class) same ∙ sym j.class) (k.length ∙ sym j.length) (k.width ∙ ap (λ (r : Rule). width_of r unit s.0.row.twice_w) same ∙ sym j.width)
-        (λ pole. apart_at (terminal_net pole s.0.row) p.nets (on pole x) (on pole y) a.has_nets.apart (k.poles pole) (j.poles pole)))
+        let over = over_wider (IsOneName p.nets p.nets) (λ u v. u ≡ v) (λ u v one. apart_at one.0 p.nets u v a.has_nets.apart one.1 one.2) x y (both_devices p p c e a b i x y h g) in
+        sym (row_over_self x) ∙ carried_row (λ u. u) x y over)
 
     rows_same : c.calls ≡ e.calls
     rows_same = one_list c.calls e.calls (a.has_calls.count ∙ sym b.has_calls.count) (λ i x y h g.

@@ -4,6 +4,7 @@ use Rattle.std.specs.Prelude.{get_or}
 use Rattle.std.proofs.lemmas.List.{length-map}
 use Rattle.std.proofs.lemmas.Option.{same_Some, slice_get_within}
 use Rattle.net_names.specs.Folding.{folded_bytes}
+use Rattle.flat_laws.proofs.Devices.{gate_net}
 use Rattle.flat_laws.proofs.Planned.{at_true, item_at, planned}
 use Rattle.flat_layout.specs.Circuits.{IsCallOf, IsCircuitCell, IsCircuitOf, cell_name, drawn_names, drawn_nets, pin_nets, true_places}
 use Rattle.flat_layout.specs.Expanded.{AreTablesRight, CircuitTables}
@@ -15,7 +16,7 @@ use Rattle.flat_layout.specs.Regions.{Wiring}
 use Rattle.plain_netlist.proofs.Listing.{apart_at, rising_at}
 use Rattle.plain_netlist.proofs.Members.{listed, position}
 use Rattle.plain_netlist.specs.Lists.{IsListed}
-use Rattle.plain_netlist.specs.Netlist.{on, Circuit, CallRow, Netlist, IsCircuit, IsCall, HasNet}
+use Rattle.plain_netlist.specs.Netlist.{Circuit, CallRow, Netlist, IsCircuit, IsCall, HasNet}
 use Rattle.plain_netlist.specs.Normal.{IsNormalNetlist}
 use Rattle.plain_netlist.specs.Sound.{IsCallPath, IsGood, IsSoundNetlist}
 use Rattle.table_laws.proofs.Naming.{circuit_names_apart, net_names_apart}
@@ -98,11 +99,12 @@ module _ (d : Design) (w : Wiring) (t : Tables) (g : CircuitTables) (nl : Netlis
           let inner = item_at row.nets (pin_nets (g.pins p.place.cell) (g.drawn p.place.cell)) i a (sym p.right.count) there in
           let x = p.right.each i inner.0 a inner.1 there in
           net_at n a x.0 c f is x.1;
-      devices = λ n i row pole (c, is, at).
+      devices = λ n i a row (c, is, at) on.
           let f = cell_of n c is in
           let r = (planned d w t g nl rules unit level h).circuits f.cell n c f.reached f.is is in
           let gate = r.rows_each i row at in
-          net_at n (on pole row) _ c f is (gate.2.poles pole);
+          let x = gate_net rules unit (g.parts f.cell).nets gate.0 row gate.2 a on in
+          net_at n a x.0 c f is x.2;
     };
     called = call_fits;
     lower = call_lower;

@@ -1,63 +1,70 @@
-//! Files that fail where they are told.
+//! A system that fails where it is told, with any kind of error, and takes short writes.
 
 use std::alloc::Allocator;
+use std::fmt::Display;
 use std::fs::{Metadata, OpenFile, OpenOptions};
 use std::io;
 use std::io::{ErrorKind, Read, Seek, SeekFrom, Write};
 use std::rt::Files;
 
-/// The call on a file that fails. `NoSync` is that of a device, which has no such call.
+/// What fails: no call, or one of a file. `Short` is a file that takes two bytes of each write, and
+/// is no fault.
 #[derive(Clone, Copy, Debug, PartialEq, Eq)]
 pub enum Fault {
     None,
+    Short,
+    Open,
     Read,
     Write,
     Flush,
     Sync,
-    NoSync,
 }
 
-/// A file without a byte, which takes all that is written.
+/// A file without a byte.
 #[derive(Drop)]
 pub struct BrokenFile {
     fault: Fault,
+    kind: ErrorKind,
 }
 
-/// A system that has each file.
+/// A system that has each file, and the kind of error that its calls fail with.
 #[derive(Drop)]
 pub struct Broken {
     pub fault: Fault,
+    pub kind: ErrorKind,
 }
 
 fn refused<T>() -> io::Result<T> {
     Err(io::Error::from(ErrorKind::Unsupported))
 }
 
-impl BrokenFile {
-    fn fails(&self, fault: Fault) -> io::Result<()> {
-        if self.fault == fault {
-            return Err(io::Error::from(ErrorKind::StorageFull));
-        }
-        Ok(())
+// Fails where the call is the one that is to fail.
+fn fails(call: Fault, fault: Fault, kind: ErrorKind) -> io::Result<()> {
+    if call == fault {
+        return Err(io::Error::from(kind));
     }
+    Ok(())
 }
 
 impl Read for BrokenFile {
     fn read(&mut self, buf: &mut [u8]) -> io::Result<usize> {
         buf.fill(0xFF);
-        self.fails(Fault::Read)?;
+        fails(Fault::Read, self.fault, self.kind)?;
         Ok(0)
     }
 }
 
 impl Write for BrokenFile {
     fn write(&mut self, buf: &[u8]) -> io::Result<usize> {
-        self.fails(Fault::Write)?;
+        fails(Fault::Write, self.fault, self.kind)?;
+        if self.fault == Fault::Short {
+            return Ok(buf.len().min(2));
+        }
         Ok(buf.len())
     }
 
     fn flush(&mut self) -> io::Result<()> {
-        self.fails(Fault::Flush)
+        fails(Fault::Flush, self.fault, self.kind)
     }
 }
 
@@ -81,10 +88,7 @@ impl OpenFile for BrokenFile {
     }
 
     fn sync_data(&self) -> io::Result<()> {
-        if self.fault == Fault::NoSync {
-            return Err(io::Error::from(ErrorKind::InvalidInput));
-        }
-        self.fails(Fault::Sync)
+        fails(Fault::Sync, self.fault, self.kind)
     }
 }
 
@@ -94,7 +98,11 @@ impl Files for Broken {
     type Dir = BrokenFile;
 
     fn open_file(&self, _how: &OpenOptions, _path: &str) -> io::Result<BrokenFile> {
-        Ok(BrokenFile { fault: self.fault })
+        fails(Fault::Open, self.fault, self.kind)?;
+        Ok(BrokenFile {
+            fault: self.fault,
+            kind: self.kind,
+        })
     }
 
     fn open_dir(&self, _path: &str) -> io::Result<BrokenFile> {
@@ -131,5 +139,32 @@ impl Files for Broken {
 
     fn remove_dir_all<B: Allocator>(&self, _alloc: B, _path: &str) -> io::Result<()> {
         refused()
+    }
+}
+
+/// A standard output that takes so many bytes of each piece, or fails.
+#[derive(Drop)]
+pub struct Mouth {
+    pub takes: Option<usize>,
+}
+
+impl Print for Mouth {
+    fn print<D: Display + Drop>(&self, _value: D) -> io::Result<()> {
+        refused()
+    }
+
+    fn println<D: Display + Drop>(&self, _value: D) -> io::Result<()> {
+        refused()
+    }
+
+    fn write_all(&self, _bytes: &[u8]) -> io::Result<()> {
+        refused()
+    }
+
+    fn write_some(&self, bytes: &[u8]) -> io::Result<usize> {
+        match self.takes {
+            Some(count) => Ok(bytes.len().min(count)),
+            None => refused(),
+        }
     }
 }

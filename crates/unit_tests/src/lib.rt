@@ -52,8 +52,6 @@ mod rule_further;
 #[cfg(test)]
 mod rule_shown;
 #[cfg(test)]
-mod spice_faults;
-#[cfg(test)]
 mod spice_long;
 #[cfg(test)]
 mod spice_read;

@@ -3,12 +3,14 @@
 ghost use Rattle.std.specs.Prelude.{◌≡◌, []};
 ghost use Rattle.lvs_outside.specs.Store.{HasRoom};
 
-use crate::broken::{Broken, Fault};
+use crate::broken::{Broken, Fault, Mouth};
 use lvs_outside::{
     Depot, EndlessDepot, Failed, FileDepot, IdleDepot, MemoryDepot, MemorySink, QuietDepot,
     ReadFault, Sink, StdoutSink, read_rest, write_all, write_file,
 };
+use std::alloc::Global;
 use std::fs;
+use std::io::ErrorKind;
 use std::test::Fail;
 
 // Reads a file, where there is one.
@@ -51,8 +53,29 @@ fn file_depot_keeps_a_file(rt: HostRuntime) -> Result<(), Fail> {
     Ok(())
 }
 
+// 70,000 bytes without an order, and three in their place: a file that was longer ends where the text
+// does.
+#[test]
+fn file_depot_writes_over_a_longer_file(rt: HostRuntime) -> Result<(), Fail> {
+    let alloc = rt.alloc();
+    let path = "lvs_outside_tests_longer";
+    let mut long = Vec::new(alloc);
+    for k in 0..70_000u32 {
+        long.push(k.wrapping_mul(2_654_435_761).to_be_bytes()[0])?;
+    }
+    let mut first = Vec::new(alloc);
+    assert!(rt; write_and_read(&mut FileDepot::new(&rt), path, &long, &mut first) == Ok(true));
+    let mut second = Vec::new(alloc);
+    assert!(rt; write_and_read(&mut FileDepot::new(&rt), path, b"GDS", &mut second) == Ok(true));
+    fs::remove_file(&rt, path)?;
+    assert!(rt; first == long);
+    assert!(rt; second.as_slice() == b"GDS".as_slice());
+    Ok(())
+}
+
 // A folder that isn't there: the file can't be started, and none is found. A full device takes no
-// byte, another takes all. A folder is opened, and can't be read.
+// byte, another takes all. A folder is opened, and can't be read; a path that goes on behind a file
+// can't be opened, and isn't told as absent.
 #[test]
 fn file_depot_fails(rt: HostRuntime) -> Result<(), Fail> {
     let alloc = rt.alloc();
@@ -61,6 +84,7 @@ fn file_depot_fails(rt: HostRuntime) -> Result<(), Fail> {
     let answer = write_and_read(&mut FileDepot::new(&rt), path, b"GDS", &mut back);
     assert!(rt; answer == Err(ReadFault::Failed));
     assert!(rt; FileDepot::new(&rt).open_read(path) == Ok(false));
+    assert!(rt; FileDepot::new(&rt).open_read("/dev/null/file") == Err(Failed));
     assert!(rt; write_file(&mut FileDepot::new(&rt), "/dev/full", b"GDS").is_err());
     assert!(rt; write_file(&mut FileDepot::new(&rt), "/dev/null", b"GDS").is_ok());
     let mut none = Vec::new(alloc);
@@ -69,30 +93,134 @@ fn file_depot_fails(rt: HostRuntime) -> Result<(), Fail> {
     Ok(())
 }
 
-/// A call that fails, whether a file is written all the same, and what reading it answers.
-static FAULTS: [(Fault, bool, Result<bool, ReadFault>); 6] = [
-    (Fault::None, true, Ok(true)),
-    (Fault::Read, true, Err(ReadFault::Failed)),
-    (Fault::Write, false, Ok(true)),
-    (Fault::Flush, false, Ok(true)),
-    (Fault::Sync, false, Ok(true)),
-    (Fault::NoSync, true, Ok(true)),
+/// The calls that may fail.
+static CALLS_THAT_FAIL: [Fault; 6] = [
+    Fault::None,
+    Fault::Open,
+    Fault::Read,
+    Fault::Write,
+    Fault::Flush,
+    Fault::Sync,
 ];
 
-// What is told by any call on a file is told by the depot: a read, a write, what was held back until
-// the file is flushed or synced. A device can't be synced.
-#[test]
-fn file_depot_tells_each_fault(rt: HostRuntime) -> Result<(), Fail> {
-    let alloc = rt.alloc();
-    for (fault, is_written, read) in &FAULTS {
-        let files = Broken { fault: *fault };
-        let mut back = Vec::new(alloc);
-        let written = write_file(&mut FileDepot::new(&files), "a", b"GDS");
-        assert!(rt; written.is_ok() == *is_written, "{fault:?}");
-        let answer = read_back(&mut FileDepot::new(&files), "a", &mut back);
-        assert!(rt; answer == *read, "{fault:?}");
+/// The kinds of errors.
+static KINDS: [ErrorKind; 42] = [
+    ErrorKind::NotFound,
+    ErrorKind::PermissionDenied,
+    ErrorKind::ConnectionRefused,
+    ErrorKind::ConnectionReset,
+    ErrorKind::HostUnreachable,
+    ErrorKind::NetworkUnreachable,
+    ErrorKind::ConnectionAborted,
+    ErrorKind::NotConnected,
+    ErrorKind::AddrInUse,
+    ErrorKind::AddrNotAvailable,
+    ErrorKind::NetworkDown,
+    ErrorKind::BrokenPipe,
+    ErrorKind::AlreadyExists,
+    ErrorKind::WouldBlock,
+    ErrorKind::NotADirectory,
+    ErrorKind::IsADirectory,
+    ErrorKind::DirectoryNotEmpty,
+    ErrorKind::ReadOnlyFilesystem,
+    ErrorKind::FilesystemLoop,
+    ErrorKind::StaleNetworkFileHandle,
+    ErrorKind::InvalidInput,
+    ErrorKind::InvalidData,
+    ErrorKind::TimedOut,
+    ErrorKind::WriteZero,
+    ErrorKind::StorageFull,
+    ErrorKind::NotSeekable,
+    ErrorKind::QuotaExceeded,
+    ErrorKind::FileTooLarge,
+    ErrorKind::ResourceBusy,
+    ErrorKind::ExecutableFileBusy,
+    ErrorKind::Deadlock,
+    ErrorKind::CrossesDevices,
+    ErrorKind::TooManyLinks,
+    ErrorKind::InvalidFilename,
+    ErrorKind::ArgumentListTooLong,
+    ErrorKind::Interrupted,
+    ErrorKind::Unsupported,
+    ErrorKind::UnexpectedEof,
+    ErrorKind::OutOfMemory,
+    ErrorKind::InProgress,
+    ErrorKind::Other,
+    ErrorKind::Uncategorized,
+];
+
+// Whether a file is written where this call fails so, and what reading it answers: a file that isn't
+// found is absent, a device has no sync, and all else is told.
+fn wanted(fault: Fault, kind: ErrorKind) -> (bool, Result<bool, ReadFault>) {
+    match (fault, kind) {
+        (Fault::Open, ErrorKind::NotFound) => (false, Ok(false)),
+        (Fault::Open, _) => (false, Err(ReadFault::Failed)),
+        (Fault::Read, _) => (true, Err(ReadFault::Failed)),
+        (Fault::Sync, ErrorKind::InvalidInput) => (true, Ok(true)),
+        (Fault::Sync, _) => (false, Ok(true)),
+        (Fault::Write, _) => (false, Ok(true)),
+        (Fault::Flush, _) => (false, Ok(true)),
+        (_, _) => (true, Ok(true)),
     }
-    Ok(())
+}
+
+// Whether a file of a system that fails so is written and read as it is wanted.
+fn is_told(alloc: Global, fault: Fault, kind: ErrorKind) -> bool {
+    let (is_written, read) = wanted(fault, kind);
+    let files = Broken { fault, kind };
+    let mut back = Vec::new(alloc);
+    let written = write_file(&mut FileDepot::new(&files), "a", b"GDS");
+    let answer = read_back(&mut FileDepot::new(&files), "a", &mut back);
+    written.is_ok() == is_written && answer == read
+}
+
+// Each call fails with each kind of error.
+#[test]
+fn file_depot_tells_each_fault(rt: HostRuntime) {
+    for fault in &CALLS_THAT_FAIL {
+        for kind in &KINDS {
+            assert!(rt; is_told(rt.alloc(), *fault, *kind), "{fault:?}");
+        }
+    }
+}
+
+// A write that takes a part of its piece says so.
+#[test]
+fn file_depot_writes_short(rt: HostRuntime) {
+    let files = Broken {
+        fault: Fault::Short,
+        kind: ErrorKind::Other,
+    };
+    let mut depot = FileDepot::new(&files);
+    assert!(rt; depot.start_write("a").is_ok());
+    assert!(rt; Depot::write(&mut depot, b"GDSII") == Ok(2));
+    assert!(rt; Depot::write(&mut depot, b"") == Ok(0));
+    assert!(rt; depot.finish_write().is_ok());
+}
+
+/// How many bytes a standard output takes, where it doesn't fail, and what a write of five and one
+/// of a whole line answer.
+static MOUTHS: [(Option<usize>, Result<usize, Failed>, bool); 4] = [
+    (Some(100), Ok(5), true),
+    (Some(2), Ok(2), true),
+    (Some(0), Ok(0), false),
+    (None, Err(Failed), false),
+];
+
+#[test]
+fn stdout_sink_tells_what_is_taken(rt: HostRuntime) {
+    for (takes, answer, is_whole) in &MOUTHS {
+        let mouth = Mouth { takes: *takes };
+        assert!(rt;
+            StdoutSink::new(&mouth).write(b"GDSII") == *answer,
+            "{takes:?}"
+        );
+        let whole = write_all(
+            &mut StdoutSink::new(&mouth),
+            b"shapes cells 1 rectangles 1\n",
+        );
+        assert!(rt; whole.is_ok() == *is_whole, "{takes:?}");
+    }
 }
 
 #[test]

@@ -1,6 +1,6 @@
 //! Netlist texts, and the text that is written of what is read from each.
 
-use spice_text::{fits_cards, read_spice, write_spice};
+use spice_text::{read_spice, write_spice};
 use std::test::Fail;
 
 // Texts, and the text of what is read from each.
@@ -155,15 +155,9 @@ static TEXTS: [(&str, &str); 24] = [
 fn read_and_written(rt: HostRuntime) -> Result<(), Fail> {
     for (text, want) in &TEXTS {
         let read = read_spice(rt.alloc(), text.as_bytes()).map_err(|e| Fail::from("read"))?;
-        if !fits_cards(&read) {
-            return Err(Fail::from("cards"));
-        }
         let out = write_spice(rt.alloc(), &read)?;
         assert!(rt; out.as_slice() == want.as_bytes(), "of {text}");
         let again = read_spice(rt.alloc(), &out).map_err(|e| Fail::from("again"))?;
-        if !fits_cards(&again) {
-            return Err(Fail::from("cards again"));
-        }
         let twice = write_spice(rt.alloc(), &again)?;
         assert!(rt; twice.as_slice() == want.as_bytes(), "again of {text}");
     }

@@ -8,6 +8,7 @@ use Rattle.deep_tables.specs.declared.gates.Gate.{Gate}
 use Rattle.geo_base.specs.declared.shapes.Rect.{Rect}
 use Rattle.plain_netlist.specs.Netlist.{DeviceRow}
 use Rattle.view_netlist.specs.Drawing.{AreSmallPlaces}
+use Rattle.view_netlist.specs.Kinds.{Class, class_of}
 use Rattle.view_netlist.specs.declared.drawing.DevicePlace.{DevicePlace}
 use Rattle.view_drawing.specs.Devices.{AddsRegions, Area, ArePlaces, AreSmallRegions, IsListedRegion, IsPlaceOf, good_of, is_good}
 use Rattle.view_drawing.specs.Far.{HasFarGate}
@@ -23,17 +24,17 @@ get_front [] ys k r e = absurd (none-some r e)
 get_front (x ∷ xs) ys zero r e = e
 get_front (x ∷ xs) ys (suc k) r e = get_front xs ys k r e
 
-pub still_listed : (a b : List Area) (k : ℕ) (class : List ℕ) (rects : List Rect) → AddsRegions a b → IsListedRegion a k class rects → IsListedRegion b k class rects
+pub still_listed : (a b : List Area) (k : ℕ) (class : Class) (rects : List Rect) → AddsRegions a b → IsListedRegion a k class rects → IsListedRegion b k class rects
 still_listed a b k class rects h l = subst (λ (rs : List Area). IsListedRegion rs k class rects) (sym h.1) (get_front a h.0 k _ l)
 
-pub still_place : (a b : List Area) (class : List ℕ) (g : Gate) (p : DevicePlace) → AddsRegions a b → IsPlaceOf a class g p → IsPlaceOf b class g p
+pub still_place : (a b : List Area) (class : Class) (g : Gate) (p : DevicePlace) → AddsRegions a b → IsPlaceOf a class g p → IsPlaceOf b class g p
 still_place a b class g p h l = record { at = l.at; region = still_listed a b p.region class _ h l.region }
 
 pub still_places : (a b : List Area) (gs : List Gate) (rows : List DeviceRow) (ps : List DevicePlace) → AddsRegions a b → ArePlaces a gs rows ps → ArePlaces b gs rows ps
 still_places a b [] rows ps h l = l
 still_places a b (g ∷ gs) [] ps h l = l
 still_places a b (g ∷ gs) (r ∷ rs) [] h l = l
-still_places a b (g ∷ gs) (r ∷ rs) (p ∷ ps) h l = (still_place a b r.class g p h l.0, still_places a b gs rs ps h l.1)
+still_places a b (g ∷ gs) (r ∷ rs) (p ∷ ps) h l = (still_place a b (class_of r) g p h l.0, still_places a b gs rs ps h l.1)
 
 -- what is placed of the gates and rows that are left stands behind what was placed before
 abbrev pub Goes : List Area → List Gate → List DeviceRow → List DevicePlace → List Gate → List DeviceRow → Type 0
@@ -48,9 +49,9 @@ goes_bad now g more rest out gates rows bad h rs ps a l =
     h rs ps a (subst (λ (b : Bool). ArePlaces rs (cond b (g ∷ good_of more) (good_of more)) rest ps) (sym bad) l)
 
 pub goes_good : (now new : List Area) (g : Gate) (more : List Gate) (r : DeviceRow) (rest : List DeviceRow) (p : DevicePlace) (out : List DevicePlace) (gates : List Gate) (rows : List DeviceRow) → is_good g.state ≡ true
-    → AddsRegions now new → IsPlaceOf new r.class g p → Goes now (g ∷ more) (r ∷ rest) out gates rows → Goes new more rest (out ++ p ∷ []) gates rows
+    → AddsRegions now new → IsPlaceOf new (class_of r) g p → Goes now (g ∷ more) (r ∷ rest) out gates rows → Goes new more rest (out ++ p ∷ []) gates rows
 goes_good now new g more r rest p out gates rows good added is h rs ps a l =
-    let one : ArePlaces rs (g ∷ good_of more) (r ∷ rest) (p ∷ ps) = (still_place new rs r.class g p a is, l) in
+    let one : ArePlaces rs (g ∷ good_of more) (r ∷ rest) (p ∷ ps) = (still_place new rs (class_of r) g p a is, l) in
     let all = h rs (p ∷ ps) (added_twice now new rs added a) (subst (λ (b : Bool). ArePlaces rs (cond b (g ∷ good_of more) (good_of more)) (r ∷ rest) (p ∷ ps)) (sym good) one) in
     subst (λ (l : List DevicePlace). ArePlaces rs (good_of gates) rows l) (sym (append_assoc out (p ∷ []) ps)) all
 
@@ -117,6 +118,6 @@ same_rect a b e f g h =
     ∙ ap (λ (z : ℤ). let r : Rect = record { x1 = b.x1; y1 = b.y1; x2 = z; y2 = a.y2 } in r) g
     ∙ ap (λ (z : ℤ). let r : Rect = record { x1 = b.x1; y1 = b.y1; x2 = b.x2; y2 = z } in r) h
 
-pub same_area : (class other : List ℕ) (rects others : List Rect) → class ≡ other → rects ≡ others → (let a : Area = record { class = class; rects = rects } in a) ≡ (let b : Area = record { class = other; rects = others } in b)
+pub same_area : (class other : Class) (rects others : List Rect) → class ≡ other → rects ≡ others → (let a : Area = record { class = class; rects = rects } in a) ≡ (let b : Area = record { class = other; rects = others } in b)
 same_area class other rects others e f =
-    ap (λ (l : List ℕ). let a : Area = record { class = l; rects = rects } in a) e ∙ ap (λ (l : List Rect). let a : Area = record { class = other; rects = l } in a) f
+    ap (λ (l : Class). let a : Area = record { class = l; rects = rects } in a) e ∙ ap (λ (l : List Rect). let a : Area = record { class = other; rects = l } in a) f

@@ -9,6 +9,7 @@ use Rattle.geo_base.specs.declared.shapes.Point.{Point}
 use Rattle.geo_base.specs.declared.shapes.Rect.{Rect}
 use Rattle.geo_base.specs.declared.shapes.Square.{Square}
 use Rattle.plain_netlist.specs.Netlist.{DeviceRow}
+use Rattle.view_netlist.specs.Kinds.{Class, class_of}
 use Rattle.view_netlist.specs.declared.drawing.DevicePlace.{DevicePlace}
 use Rattle.view_words.specs.Numbers.{IsSmallRect}
 use Rattle.view_drawing.specs.declared.regions.Region.{Region}
@@ -25,7 +26,7 @@ seen_from p r = record {
 }
 
 abbrev pub is_good : GateState → Bool
-is_good (Good w l s d g b) = true
+is_good (Good kind w l nets) = true
 is_good (Bad cause) = false
 
 abbrev pub good_of : List Gate → List Gate
@@ -37,11 +38,14 @@ IsSmallHull hull = IfSome hull IsSmallRect
 
 -- a region of devices of a class, as it is seen from a corner of each
 pub record Area : Type 0 where
-  pub class : List ℕ
+  pub class : Class
   pub rects : List Rect
 
+abbrev pub class_in : Region → Class
+class_in r = record { kind = r.kind; name = r.class.items }
+
 abbrev pub area_of : Region → Area
-area_of r = record { class = r.class.items; rects = r.rects.items }
+area_of r = record { class = class_in r; rects = r.rects.items }
 
 abbrev pub areas_of : List Region → List Area
 areas_of regions = map area_of regions
@@ -51,13 +55,13 @@ abbrev pub AreSmallRegions : List Area → Type 0
 AreSmallRegions areas = All (λ a. All IsSmallRect a.rects) areas
 
 -- the region of this number is of this class and has these rectangles
-abbrev pub IsListedRegion : List Area → ℕ → List ℕ → List Rect → Type 0
+abbrev pub IsListedRegion : List Area → ℕ → Class → List Rect → Type 0
 IsListedRegion areas k class rects =
     slice_get areas k ≡ Some (record { class = class; rects = rects })
 
 -- the gate's device stands at its least square, in a region of its class with the gate's area as
 -- it is seen from there
-pub record IsPlaceOf (areas : List Area) (class : List ℕ) (gate : Gate)
+pub record IsPlaceOf (areas : List Area) (class : Class) (gate : Gate)
     (p : DevicePlace) : Type 0 where
   pub at : p.at ≡ corner_of gate.least
   pub region : IsListedRegion areas p.region class
@@ -73,7 +77,7 @@ ArePlaces areas [] rows places = places ≡ []
 ArePlaces areas (g ∷ gs) [] places = places ≡ []
 ArePlaces areas (g ∷ gs) (r ∷ rs) [] = ⊥
 ArePlaces areas (g ∷ gs) (r ∷ rs) (p ∷ ps) =
-    IsPlaceOf areas r.class g p × ArePlaces areas gs rs ps
+    IsPlaceOf areas (class_of r) g p × ArePlaces areas gs rs ps
 
 -- for each good gate
 abbrev pub ArePlaced : List Area → List Gate → List DeviceRow → List DevicePlace → Type 0

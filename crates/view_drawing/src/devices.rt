@@ -6,13 +6,14 @@ ghost use Rattle.view_drawing.specs.Devices.{AddsRegions, ArePlaced, AreSmallReg
 ghost use Rattle.view_drawing.specs.Devices.{areas_of, corner_of, is_good};
 ghost use Rattle.view_drawing.specs.Far.{HasFarGate, IsFarArea};
 ghost use Rattle.view_netlist.specs.Drawing.{AreSmallPlaces, IsSmallPoint};
+ghost use Rattle.view_netlist.specs.Kinds.{class_seen};
 
 use crate::regions::{DeviceRegions, add_region, area_from};
 use deep_tables::{Gate, GateState};
 use geo_base::Point;
 use net_model::DeviceRow;
 use std::alloc::{AllocError, Global};
-use view_netlist::DevicePlace;
+use view_netlist::{DeviceClass, DevicePlace, class_of};
 use view_shapes::ShowFault;
 
 fn is_good(gate: &Gate) -> bool
@@ -27,11 +28,12 @@ fn is_good(gate: &Gate) -> bool
 fn place_device(
     alloc: Global,
     gate: &Gate,
-    class: &[u8],
+    class: DeviceClass<'_>,
     found: &mut DeviceRegions,
 ) -> Result<DevicePlace, ShowFault>
     ensures added { OnOk result (AddsRegions (areas_of found.old.regions.items) (areas_of found.new.regions.items)) }
-    ensures place { IfOk result (IsPlaceOf (areas_of found.new.regions.items) class.now gate.now) }
+    ensures place { IfOk result (IsPlaceOf (areas_of found.new.regions.items)
+        (class_seen class.entry) gate.now) }
     ensures small { OnOk result (AreSmallRegions (areas_of found.old.regions.items)
         → AreSmallRegions (areas_of found.new.regions.items)) }
     ensures at { IfOk result (λ p. IsSmallPoint p.at) }
@@ -83,7 +85,7 @@ pub fn place_devices(
             let [row, later @ ..] = rest else {
                 return Ok(out);
             };
-            let place = place_device(alloc, gate, row.class.bytes(), found)?;
+            let place = place_device(alloc, gate, class_of(row), found)?;
             keep_place(&mut out, place)?;
             rest = later;
         }

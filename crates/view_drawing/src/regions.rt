@@ -4,23 +4,39 @@ ghost use Rattle.std.specs.Prelude.{◌≡◌, ◌++◌, ◌∷◌, [], IfOk, Is
 ghost use Rattle.std.specs.List.{All};
 ghost use Rattle.flat_layout.specs.Layout.{Some_of};
 ghost use Rattle.view_netlist.specs.Drawing.{IsSmallPoint};
+ghost use Rattle.view_netlist.specs.Kinds.{class_seen};
 ghost use Rattle.view_words.specs.Numbers.{IsSmallRect};
 ghost use Rattle.view_drawing.specs.Devices.{AddsRegions, AreSmallRegions, IsListedRegion};
-ghost use Rattle.view_drawing.specs.Devices.{areas_of, seen_from};
+ghost use Rattle.view_drawing.specs.Devices.{areas_of, class_in, seen_from};
 ghost use Rattle.view_drawing.specs.Far.{IsFarArea, IsFarFrom};
 
 use crate::small::{is_small_point, small_from};
 use geo_base::{Point, Rect};
 use list_base::number;
+use plain_netlist::DeviceKind;
 use std::alloc::{AllocError, Global};
 use text_table::TextTable;
+use view_netlist::DeviceClass;
 use view_shapes::ShowFault;
 
 /// The region of devices of a class, as it is seen from a corner of each.
 #[derive(Drop)]
 pub struct Region {
+    pub kind: DeviceKind,
     pub class: Vec<u8>,
     pub rects: Vec<Rect>,
+}
+
+impl Region {
+    /// The class of the devices.
+    pub fn class(&self) -> DeviceClass<'_>
+        ensures { class_seen result ≡ class_in self.now }
+    {
+        DeviceClass {
+            kind: self.kind,
+            name: &self.class,
+        }
+    }
 }
 
 /// The regions that devices have, and a table of texts that tells where one may stand.
@@ -97,17 +113,24 @@ fn same_rects(some: &[Rect], others: &[Rect]) -> bool
     behind.is_empty()
 }
 
+fn same_class(a: DeviceClass<'_>, b: DeviceClass<'_>) -> bool
+    ensures { result ≡ true → class_seen a.entry ≡ class_seen b.entry }
+{
+    a.kind.is(b.kind) && a.name == b.name
+}
+
 // Whether a region is of this class and has these rectangles.
-fn is_same(region: &Region, class: &[u8], rects: &[Rect]) -> bool
-    ensures class { result ≡ true → region.now.class.items ≡ class.now }
+fn is_same(region: &Region, class: DeviceClass<'_>, rects: &[Rect]) -> bool
+    ensures class { result ≡ true → class_in region.now ≡ class_seen class.entry }
     ensures rects { result ≡ true → region.now.rects.items ≡ rects.now }
 {
-    region.class.as_slice() == class && same_rects(&region.rects, rects)
+    same_class(region.class(), class) && same_rects(&region.rects, rects)
 }
 
 // Whether this region stands at a place.
-fn is_at(regions: &[Region], k: usize, class: &[u8], rects: &[Rect]) -> bool
-    ensures { result ≡ true → IsListedRegion (areas_of regions.now) k class.now rects.now }
+fn is_at(regions: &[Region], k: usize, class: DeviceClass<'_>, rects: &[Rect]) -> bool
+    ensures { result ≡ true
+        → IsListedRegion (areas_of regions.now) k (class_seen class.entry) rects.now }
 {
     if k < regions.len() {
         return is_same(&regions[k], class, rects);
@@ -116,14 +139,19 @@ fn is_at(regions: &[Region], k: usize, class: &[u8], rects: &[Rect]) -> bool
 }
 
 // A text for a class and rectangles.
-fn region_text(alloc: Global, class: &[u8], rects: &[Rect]) -> Result<Vec<u8>, AllocError> {
+fn region_text(
+    alloc: Global,
+    class: DeviceClass<'_>,
+    rects: &[Rect],
+) -> Result<Vec<u8>, AllocError> {
     let mut out = Vec::new(alloc);
     for r in rects {
         for side in [r.x1, r.y1, r.x2, r.y2] {
             out.extend_from_slice(&side.to_le_bytes())?;
         }
     }
-    out.extend_from_slice(class)?;
+    out.push(class.kind as u8)?;
+    out.extend_from_slice(class.name)?;
     Ok(out)
 }
 
@@ -131,17 +159,22 @@ fn region_text(alloc: Global, class: &[u8], rects: &[Rect]) -> Result<Vec<u8>, A
 fn push_region(
     alloc: Global,
     regions: &mut Vec<Region>,
-    class: &[u8],
+    class: DeviceClass<'_>,
     rects: Vec<Rect>,
 ) -> Result<u32, AllocError>
     ensures added { OnOk result (AddsRegions (areas_of regions.old.items) (areas_of regions.new.items)) }
-    ensures listed { IfOk result (λ k. IsListedRegion (areas_of regions.new.items) k class.now rects.items) }
+    ensures listed { IfOk result (λ k. IsListedRegion (areas_of regions.new.items) k
+        (class_seen class.entry) rects.items) }
     ensures small { OnOk result (AreSmallRegions (areas_of regions.old.items) → All IsSmallRect rects.items
         → AreSmallRegions (areas_of regions.new.items)) }
 {
     let next = number(regions.len())?;
-    let class = class.to_vec(alloc)?;
-    regions.push(Region { class, rects })?;
+    let name = class.name.to_vec(alloc)?;
+    regions.push(Region {
+        kind: class.kind,
+        class: name,
+        rects,
+    })?;
     Ok(next)
 }
 
@@ -150,12 +183,12 @@ fn push_region(
 pub fn add_region(
     alloc: Global,
     found: &mut DeviceRegions,
-    class: &[u8],
+    class: DeviceClass<'_>,
     rects: Vec<Rect>,
 ) -> Result<u32, AllocError>
     ensures added { OnOk result (AddsRegions (areas_of found.old.regions.items) (areas_of found.new.regions.items)) }
-    ensures listed { IfOk result (λ k. IsListedRegion (areas_of found.new.regions.items) k class.now
-        rects.items) }
+    ensures listed { IfOk result (λ k. IsListedRegion (areas_of found.new.regions.items) k
+        (class_seen class.entry) rects.items) }
     ensures small { OnOk result (AreSmallRegions (areas_of found.old.regions.items)
         → All IsSmallRect rects.items → AreSmallRegions (areas_of found.new.regions.items)) }
 {

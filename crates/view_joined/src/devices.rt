@@ -16,9 +16,10 @@ use crate::moved::moved_area;
 use crate::spots::{circuit_at, motion_at};
 use geo_base::{Motion, Point, Rect, Square};
 use part_origins::{Part, Spot};
+use plain_netlist::DeviceKind;
 use std::alloc::{AllocError, Global};
 use view_drawing::{DeviceRegions, Region, add_region, area_from, keep_place};
-use view_netlist::{DevicePlace, Drawing};
+use view_netlist::{DeviceClass, DevicePlace, Drawing};
 use view_shapes::ShowFault;
 
 // The lower left corner of the image of the square at a point.
@@ -34,7 +35,7 @@ fn moved_corner(motion: &Motion, p: Point) -> Point
     }
 }
 
-fn class_of(alloc: Global, region: &Region) -> Result<Vec<u8>, AllocError>
+fn class_name_of(alloc: Global, region: &Region) -> Result<Vec<u8>, AllocError>
     ensures { IfOk result (λ v. v.items ≡ region.now.class.items) }
 {
     region.class.as_slice().to_vec(alloc)
@@ -67,17 +68,19 @@ fn rects_from(
 fn add_area(
     alloc: Global,
     found: &mut DeviceRegions,
+    kind: DeviceKind,
     class: Vec<u8>,
     rects: Vec<Rect>,
 ) -> Result<u32, AllocError>
     ensures added { OnOk result (AddsRegions (areas_of found.old.regions.items)
         (areas_of found.new.regions.items)) }
     ensures listed { IfOk result (λ k. IsListedRegion (areas_of found.new.regions.items) k
-        class.items rects.items) }
+        (record { kind = kind; name = class.items }) rects.items) }
     ensures small { OnOk result (AreSmallRegions (areas_of found.old.regions.items)
         → All IsSmallRect rects.items → AreSmallRegions (areas_of found.new.regions.items)) }
 {
-    add_region(alloc, found, &class, rects)
+    let class = DeviceClass { kind, name: &class };
+    add_region(alloc, found, class, rects)
 }
 
 // Where a device stands that is moved with its cell: its corner's square moved, in a region of its
@@ -103,9 +106,10 @@ fn moved_place(
 {
     let at = moved_corner(motion, place.at);
     let old = &found.regions[place.region as usize];
-    let class = class_of(alloc, old)?;
+    let kind = old.kind;
+    let class = class_name_of(alloc, old)?;
     let rects = rects_from(alloc, motion, place.at, at, old)?;
-    let region = add_area(alloc, found, class, rects)?;
+    let region = add_area(alloc, found, kind, class, rects)?;
     Ok(DevicePlace { region, at })
 }
 

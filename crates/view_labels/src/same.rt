@@ -2,21 +2,35 @@
 
 ghost use Rattle.std.specs.Prelude.{◌≡◌, ◌↔◌, true, map, slice_get};
 ghost use Rattle.net_model.specs.Rows.{plain_call, plain_circuit, plain_device};
+ghost use Rattle.plain_netlist.specs.Devices.{terminal_nets};
 ghost use Rattle.view_labels.specs.Same.{AreSameCalls, AreSameRows, IsSameCall};
 
+use fixed_num::Femto;
 use net_model::{CallRow, Circuit, DeviceRow};
 use net_names::Name;
+
+fn same_sizes(some: [Femto; 2], others: [Femto; 2]) -> bool
+    ensures { (result ≡ true)
+        ↔ (map (λ (f : Femto). f.0) some ≡ map (λ (f : Femto). f.0) others) }
+{
+    some[0].0 == others[0].0 && some[1].0 == others[1].0
+}
+
+// Whether two devices have the same nets at their terminals, where they are of one kind.
+fn same_nets_of(a: &DeviceRow, b: &DeviceRow) -> bool
+    ensures { (result ≡ true)
+        ↔ (terminal_nets (plain_device a.now) ≡ terminal_nets (plain_device b.now)) }
+{
+    a.terminal_nets() == b.terminal_nets()
+}
 
 fn is_same_device(a: &DeviceRow, b: &DeviceRow) -> bool
     ensures { (result ≡ true) ↔ (plain_device a.now ≡ plain_device b.now) }
 {
-    a.class == b.class
-        && a.length == b.length
-        && a.width == b.width
-        && a.source == b.source
-        && a.gate == b.gate
-        && a.drain == b.drain
-        && a.bulk == b.bulk
+    if !a.kind.is(b.kind) || a.class != b.class {
+        return false;
+    }
+    same_sizes(a.sizes, b.sizes) && same_nets_of(a, b)
 }
 
 /// Whether these are the same devices. Linear in them.

@@ -3,12 +3,11 @@ use Rattle.std.specs.Prelude.{◌≡◌, ℕ, ◌+◌, List, [], ◌∷◌, ◌+
 use Rattle.std.specs.Prelude.{codes}
 use Rattle.geo_base.specs.declared.motion.Motion.{Motion}
 use Rattle.plain_netlist.specs.Netlist.{CallRow, Circuit, DeviceRow}
-use Rattle.spice_text.specs.Cards.{kind_of}
 use Rattle.spice_text.specs.Written.{AreOneByOne, AreTexts}
 use Rattle.view_words.specs.Words.{word}
 use Rattle.view_netlist.specs.Drawing.{Drawn, drawn_of, hull_text, kind_text, motion_text, origin}
 use Rattle.view_netlist.specs.Drawing.{shape_rows}
-use Rattle.view_netlist.specs.Kinds.{AreSizes}
+use Rattle.view_netlist.specs.Kinds.{AreSizes, class_of}
 use Rattle.view_netlist.specs.Rows.{call_pin_texts, device_end, name_text, pin_texts, place_text}
 use Rattle.view_netlist.specs.declared.drawing.DevicePlace.{DevicePlace}
 use Rattle.view_netlist.specs.declared.drawing.Drawing.{Drawing}
@@ -30,12 +29,12 @@ net_texts layers drawn names k (_ ∷ rest) =
 -- `D(K CLASS ..)` or, where it has a place, `D(K D$K Y(X Y) ..)`
 abbrev pub device_text : ℕ → List ℕ → List ℕ → Option DevicePlace → DeviceRow → List ℕ
 device_text k first second place d = codes "\n  D(" ++ (place_text k
-    ++ (0x20 ∷ (kind_text d.class place ++ device_end (kind_of d.class) first second d)))
+    ++ (0x20 ∷ (kind_text (class_of d) place ++ device_end first second d)))
 
--- by the kind that its class shows
+-- with its sizes
 abbrev pub IsDeviceText : List DevicePlace → ℕ → DeviceRow → List ℕ → Type 0
 IsDeviceText places k d text = (first : List ℕ) × (second : List ℕ)
-    × AreSizes (kind_of d.class) d first second
+    × AreSizes d.kind d.sizes first second
     × (text ≡ device_text k first second (slice_get places k) d)
 
 -- what stands behind the name of a called circuit

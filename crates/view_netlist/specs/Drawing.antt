@@ -11,7 +11,7 @@ use Rattle.geo_base.specs.declared.shapes.Rect.{Rect}
 use Rattle.view_words.specs.Numbers.{IsSmall, IsSmallRect, pair_text}
 use Rattle.view_words.specs.Steps.{step_row, step_text, step_to, upper_right}
 use Rattle.view_words.specs.Words.{word}
-use Rattle.view_netlist.specs.Kinds.{class_name}
+use Rattle.view_netlist.specs.Kinds.{Class, class_name}
 use Rattle.view_netlist.specs.Rows.{place_text}
 use Rattle.view_netlist.specs.declared.drawing.DevicePlace.{DevicePlace}
 use Rattle.view_netlist.specs.declared.drawing.Drawing.{Drawing}
@@ -84,7 +84,7 @@ abbrev pub region_name : ℕ → List ℕ
 region_name k = codes "D$" ++ place_text k
 
 -- a device's region and place, or its class where it has none
-abbrev pub kind_text : List ℕ → Option DevicePlace → List ℕ
+abbrev pub kind_text : Class → Option DevicePlace → List ℕ
 kind_text class None = word (class_name class)
 kind_text class (Some p) = region_name p.region ++ (codes " Y" ++ pair_text p.at.x p.at.y)
 

@@ -1,10 +1,8 @@
 -- The rows of a circuit, by which layout and schematic are told alike.
 use Rattle.std.specs.Prelude.{ℕ, ◌+◌, List, [], ◌∷◌, ◌++◌, get_or, codes, decimal}
 use Rattle.plain_netlist.specs.Netlist.{DeviceRow}
-use Rattle.spice_rows.specs.Params.{Kind}
-use Rattle.spice_text.specs.Cards.{first_key, second_key}
 use Rattle.view_words.specs.Words.{word}
-use Rattle.view_netlist.specs.Kinds.{terminals}
+use Rattle.view_netlist.specs.Kinds.{size_letters, terminals}
 
 -- nets, devices and calls are numbered from 1
 abbrev pub place_text : ℕ → List ℕ
@@ -36,9 +34,10 @@ terminal_texts [] = []
 terminal_texts (t ∷ ts) = terminal_text t.0 t.1 ++ terminal_texts ts
 
 -- what stands behind a device's class and place: its two sizes and its terminals
-abbrev pub device_end : Kind → List ℕ → List ℕ → DeviceRow → List ℕ
-device_end kind first second d = size_text (first_key kind) first
-    ++ (size_text (second_key kind) second ++ (terminal_texts (terminals kind d) ++ codes ")"))
+abbrev pub device_end : List ℕ → List ℕ → DeviceRow → List ℕ
+device_end first second d = size_text (size_letters d.kind).0 first
+    ++ (size_text (size_letters d.kind).1 second
+    ++ (terminal_texts (terminals d.kind d.ends d.others) ++ codes ")"))
 
 -- ` P(PIN NET)` for each pin of a call, pins numbered from 0
 abbrev pub call_pin_texts : ℕ → List ℕ → List ℕ

@@ -5,6 +5,7 @@ use Rattle.net_model.specs.Faults.{called_by}
 use Rattle.plain_netlist.specs.Netlist.{Circuit}
 use Rattle.view_netlist.specs.Circuits.{AreCircuitTexts}
 use Rattle.view_netlist.specs.Classes.{class_texts, used_classes}
+use Rattle.view_netlist.specs.Kinds.{Class}
 use Rattle.view_netlist.specs.declared.drawing.Names.{Names}
 
 -- the circuits' own names
@@ -13,7 +14,7 @@ pub record AreOwnNames (cs : List Circuit) (names : Names) : Type 0 where
   pub circuits : names.circuits.items ≡ map (λ c. c.name) cs
 
 -- these classes, then the circuits of these numbers, without places
-abbrev pub IsSectionText : Names → List (List ℕ) → List Circuit → List ℕ → List ℕ → Type 0
+abbrev pub IsSectionText : Names → List Class → List Circuit → List ℕ → List ℕ → Type 0
 IsSectionText names classes cs order text =
     (circuits : List ℕ) × AreCircuitTexts names [] cs order circuits
     × (text ≡ codes "\nH(" ++ (class_texts classes ++ (circuits ++ codes "\n)")))

@@ -2,8 +2,6 @@
 
 ghost use Rattle.std.specs.Prelude.{◌≡◌, ◌++◌, ◌∷◌, OnOk, codes, slice_get};
 ghost use Rattle.net_model.specs.Rows.{plain_device};
-ghost use Rattle.spice_rows.specs.Seen.{kind_seen};
-ghost use Rattle.spice_text.specs.Cards.{kind_of};
 ghost use Rattle.spice_text.specs.Written.{Adds};
 ghost use Rattle.view_netlist.specs.Circuits.{IsDeviceText, device_text};
 ghost use Rattle.view_netlist.specs.Kinds.{terminals};
@@ -11,10 +9,10 @@ ghost use Rattle.view_netlist.specs.Rows.{device_end, place_text, size_text, ter
 ghost use Rattle.view_netlist.specs.Rows.{terminal_texts};
 
 use crate::drawing::{DevicePlace, push_kind};
-use crate::kinds::{shown_class, size_keys, size_texts};
+use crate::kinds::{class_of, size_letters, size_texts};
 use crate::rows::push_place;
 use net_model::DeviceRow;
-use spice_rows::Kind;
+use plain_netlist::DeviceKind;
 use std::alloc::{AllocError, Global};
 
 fn push_size(out: &mut Vec<u8>, letter: u8, size: &[u8]) -> Result<(), AllocError>
@@ -52,44 +50,38 @@ fn push_terminals(
     Ok(())
 }
 
-// The terminals that a device of the kind has.
-fn push_nets(alloc: Global, out: &mut Vec<u8>, kind: Kind, d: &DeviceRow) -> Result<(), AllocError>
-    ensures { OnOk result (out.new.items ≡ out.old.items
-        ++ terminal_texts (terminals (kind_seen kind) (plain_device d.now))) }
+// The terminals of a device.
+fn push_nets(alloc: Global, out: &mut Vec<u8>, d: &DeviceRow) -> Result<(), AllocError>
+    ensures { OnOk result (out.new.items ≡ out.old.items ++ terminal_texts
+        (terminals d.now.kind (plain_device d.now).ends (plain_device d.now).others)) }
 {
-    match kind {
-        Kind::Transistor => {
-            let ends = [
-                (b'S', d.source),
-                (b'G', d.gate),
-                (b'D', d.drain),
-                (b'B', d.bulk),
-            ];
+    let [first, second, third, fourth] = d.nets;
+    match d.kind {
+        DeviceKind::Mos4 => {
+            let ends = [(b'S', third), (b'G', second), (b'D', first), (b'B', fourth)];
             push_terminals(alloc, out, &ends)
         }
-        Kind::Resistor => {
-            let ends = [(b'A', d.source), (b'B', d.drain), (b'W', d.bulk)];
-            push_terminals(alloc, out, &ends)
+        DeviceKind::ResistorWithBulk => {
+            push_terminals(alloc, out, &[(b'A', third), (b'B', first), (b'W', second)])
         }
-        Kind::Diode => push_terminals(alloc, out, &[(b'A', d.source), (b'C', d.gate)]),
+        DeviceKind::Diode => push_terminals(alloc, out, &[(b'A', first), (b'C', second)]),
     }
 }
 
 fn push_end(
     alloc: Global,
     out: &mut Vec<u8>,
-    kind: Kind,
     first: &[u8],
     second: &[u8],
     d: &DeviceRow,
 ) -> Result<(), AllocError>
     ensures { OnOk result (out.new.items ≡ out.old.items
-        ++ device_end (kind_seen kind) first.now second.now (plain_device d.now)) }
+        ++ device_end first.now second.now (plain_device d.now)) }
 {
-    let keys = size_keys(kind);
-    push_size(out, keys.0, first)?;
-    push_size(out, keys.1, second)?;
-    push_nets(alloc, out, kind, d)?;
+    let letters = size_letters(d.kind);
+    push_size(out, letters.0, first)?;
+    push_size(out, letters.1, second)?;
+    push_nets(alloc, out, d)?;
     out.extend_from_slice(b")")
 }
 
@@ -97,21 +89,19 @@ fn push_row(
     alloc: Global,
     out: &mut Vec<u8>,
     k: u32,
-    kind: Kind,
     first: &[u8],
     second: &[u8],
     place: Option<DevicePlace>,
     d: &DeviceRow,
 ) -> Result<(), AllocError>
-    requires { kind_seen kind ≡ kind_of d.now.class }
     ensures { OnOk result (out.new.items ≡ out.old.items
         ++ device_text k first.now second.now place (plain_device d.now)) }
 {
     out.extend_from_slice(b"\n  D(")?;
     push_place(alloc, out, k)?;
     out.push(b' ')?;
-    push_kind(alloc, out, d.class.bytes(), place)?;
-    push_end(alloc, out, kind, first, second, d)
+    push_kind(alloc, out, class_of(d), place)?;
+    push_end(alloc, out, first, second, d)
 }
 
 // The place of a number; none past the last.
@@ -135,7 +125,6 @@ pub fn push_device(
     ensures { OnOk result (Adds (IsDeviceText places.now k (plain_device d.now))
         out.old.items out.new.items) }
 {
-    let (kind, _) = shown_class(d.class.bytes());
-    let (first, second) = size_texts(alloc, kind, d)?;
-    push_row(alloc, out, k, kind, &first, &second, place_at(places, k), d)
+    let (first, second) = size_texts(alloc, d)?;
+    push_row(alloc, out, k, &first, &second, place_at(places, k), d)
 }

@@ -4,10 +4,11 @@ ghost use Rattle.std.specs.Prelude.{◌≡◌, ◌++◌, [], OnOk, IfSome, get_o
 ghost use Rattle.view_netlist.specs.Drawing.{AreSmallShapes, blank, drawn_of, hull_text, kind_text};
 ghost use Rattle.view_netlist.specs.Drawing.{motion_text, origin, plain_drawing, region_name};
 ghost use Rattle.view_netlist.specs.Drawing.{shape_rows, turn_text};
+ghost use Rattle.view_netlist.specs.Kinds.{class_seen};
 ghost use Rattle.view_words.specs.Numbers.{IsSmall, IsSmallRect};
 ghost use Rattle.view_words.specs.Steps.{step_row, step_to};
 
-use crate::kinds::class_name;
+use crate::kinds::{DeviceClass, class_name};
 use crate::rows::{name_at, push_place};
 use geo_base::{Motion, Point, Rect, Turn};
 use net_names::Name;
@@ -142,10 +143,11 @@ pub fn push_region(alloc: Global, out: &mut Vec<u8>, k: u32) -> Result<(), Alloc
 pub fn push_kind(
     alloc: Global,
     out: &mut Vec<u8>,
-    class: &[u8],
+    class: DeviceClass<'_>,
     place: Option<DevicePlace>,
 ) -> Result<(), AllocError>
-    ensures { OnOk result (out.new.items ≡ out.old.items ++ kind_text class.now place) }
+    ensures { OnOk result (out.new.items
+        ≡ out.old.items ++ kind_text (class_seen class.entry) place) }
 {
     let Some(p) = place else {
         let name = class_name(alloc, class)?;

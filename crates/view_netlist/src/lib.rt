@@ -13,7 +13,7 @@ mod section;
 pub use circuits::push_circuits;
 pub use classes::{push_classes, used_classes};
 pub use drawing::{DevicePlace, Drawing, Names, Shape, drawing_at, push_region};
-pub use kinds::{class_name, kind_word, shown_class, size_keys, size_texts};
+pub use kinds::{DeviceClass, class_name, class_of, kind_word, size_letters, size_texts};
 pub use laws::class_names;
 pub use rows::name_at;
 pub use section::push_schematic;

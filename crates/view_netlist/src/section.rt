@@ -6,11 +6,13 @@ ghost use Rattle.call_order.specs.Order.{AreInRange, IsCallOrder, ReachesItself}
 ghost use Rattle.net_model.specs.Faults.{called_by};
 ghost use Rattle.net_model.specs.Rows.{plain_circuit};
 ghost use Rattle.spice_text.specs.Written.{Adds};
+ghost use Rattle.view_netlist.specs.Kinds.{class_seen};
 ghost use Rattle.view_netlist.specs.Section.{AreOwnNames, IsSchematicText, IsSectionText};
 
 use crate::circuits::push_circuits;
 use crate::classes::{push_classes, used_classes};
 use crate::drawing::Names;
+use crate::kinds::DeviceClass;
 use call_order::{CallOrder, call_order};
 use net_model::{Circuit, call_lists};
 use std::alloc::{AllocError, Global};
@@ -50,12 +52,12 @@ fn push_section(
     alloc: Global,
     out: &mut Vec<u8>,
     names: &Names,
-    classes: &[Vec<u8>],
+    classes: &[DeviceClass<'_>],
     circuits: &[Circuit],
     order: &[u32],
 ) -> Result<(), AllocError>
     requires { All (λ k. k < length circuits.now) order.now }
-    ensures { OnOk result (Adds (IsSectionText names.now (map (λ class. class.items) classes.now)
+    ensures { OnOk result (Adds (IsSectionText names.now (map class_seen classes.now)
         (map plain_circuit circuits.now) order.now) out.old.items out.new.items) }
 {
     out.extend_from_slice(b"\nH(")?;

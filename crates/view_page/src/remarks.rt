@@ -16,7 +16,7 @@ use net_model::{Circuit, DeviceRow};
 use net_names::Name;
 use std::alloc::{AllocError, Global};
 use view_cross::{Kind, Mark, Row};
-use view_pairs::device_at;
+use view_pairs::{device_at, same_sizes};
 
 /// What the lines of a pair are made from: the unit in picometres, the names of the circuits of
 /// both sides, the pair's circuits, and the places of the left one's nodes.
@@ -113,7 +113,7 @@ fn sizes_differ(d: Option<&DeviceRow>, e: Option<&DeviceRow>) -> bool
 {
     match d {
         Some(left) => match e {
-            Some(right) => { !(left.length.0 == right.length.0 && left.width.0 == right.width.0) }
+            Some(right) => !same_sizes(left, right),
             None => false,
         },
         None => false,

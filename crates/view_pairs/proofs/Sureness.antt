@@ -1,11 +1,11 @@
 -- The rows of a proposal have the partners that are sure.
-use Rattle.std.proofs.Common.{◌≡◌, inl, inr, ◌∙◌, ◌==◌, ◌<◌, ◌↔◌, ℕ, zero, suc, ◌+◌, Bool, true, false, List, [], ◌∷◌, ◌++◌, length, map, get_or, Option, Some, None, slice_get, slice_index, refl, sym, ap, subst, arith}
+use Rattle.std.proofs.Common.{◌≡◌, inl, inr, ◌∙◌, ◌==◌, ◌<◌, ◌↔◌, ℕ, zero, suc, ◌+◌, Bool, true, false, bytes_eq, List, [], ◌∷◌, ◌++◌, length, map, get_or, Option, Some, None, slice_get, slice_index, refl, sym, ap, subst, arith}
 use Rattle.base_laws.proofs.Tests.{same_truth}
 use Rattle.base_laws.proofs.Items.{item_at}
 use Rattle.std.specs.Bool.{beq}
 use Rattle.std.specs.List.{list_any}
 use Rattle.std.proofs.lemmas.List.FromFn.{get_or-map-range_with_len}
-use Rattle.std.proofs.lemmas.Bool.{eq-eqb}
+use Rattle.std.proofs.lemmas.Bool.{and_from, eq-eqb}
 use Rattle.std.proofs.lemmas.Option.{slice_get_within}
 use Rattle.std.proofs.lemmas.Slice.Eq.{bytes_eq-Decides}
 use Rattle.match_laws.specs.Circuits.{IsCorrespondence, IsOneToOne, Pair}
@@ -13,8 +13,10 @@ use Rattle.match_types.specs.Plain.{plain_pairing}
 use Rattle.match_types.specs.declared.answer.Answer.{Answer}
 use Rattle.match_types.specs.declared.answer.Answer.TheVariants as answer
 use Rattle.match_types.specs.declared.answer.Pairing.{Pairing as Found}
+use Rattle.plain_netlist.specs.Kinds.{same_device_kind}
 use Rattle.plain_netlist.specs.Lists.{IsListed}
 use Rattle.plain_netlist.specs.Netlist.{CallRow, Circuit, DeviceRow}
+use Rattle.plain_netlist.proofs.Rows.{same_kind}
 use Rattle.plain_netlist.proofs.Members.{in_left, in_right, listed}
 use Rattle.view_cross.specs.Matched.{right_alone}
 use Rattle.view_cross.specs.declared.rows.Kind.{Kind}
@@ -108,9 +110,10 @@ net_alike a b nets k m l r pins =
     (λ t. listed_any m b.pins (pins.0 (any_listed k a.pins t))) (λ t. listed_any k a.pins (pins.1 (any_listed m b.pins t))) in
     same_beq (get_or (pin_marks a) k false) (get_or (pin_marks b) m false) (pin_mark a k l ∙ same ∙ sym (pin_mark b m r))
 
-class_alike : (xs ys : List DeviceRow) (k m : ℕ) (d e : DeviceRow) → slice_get xs k ≡ Some d → slice_get ys m ≡ Some e → d.class ≡ e.class
+class_alike : (xs ys : List DeviceRow) (k m : ℕ) (d e : DeviceRow) → slice_get xs k ≡ Some d → slice_get ys m ≡ Some e → d.kind ≡ e.kind → d.class ≡ e.class
     → both same_class (slice_get xs k) (slice_get ys m) ≡ true
-class_alike xs ys k m d e at there same = rw at (rw there ((bytes_eq-Decides d.class e.class).1 same))
+class_alike xs ys k m d e at there kind same =
+    rw at (rw there (and_from (same_device_kind d.kind e.kind) (bytes_eq d.class e.class) ((same_kind d.kind e.kind).1 kind) ((bytes_eq-Decides d.class e.class).1 same)))
 
 pair_alike : (xs ys : List CallRow) (k m : ℕ) (c e : CallRow) → slice_get xs k ≡ Some c → slice_get ys m ≡ Some e → c.circuit ≡ e.circuit
     → both same_pair (slice_get xs k) (slice_get ys m) ≡ true
@@ -147,7 +150,7 @@ module _ (p : Pair) (f : Found) (h : IsCorrespondence p (plain_pairing f)) (w : 
       let there : slice_get p.right.devices (slice_index f.devices.items k) ≡ Some e.0 = ap (λ (j : ℕ). slice_get p.right.devices j) (entry_is f.devices.items k m at) ∙ e.1 in
       let image = h.device k d.0 e.0 d.1 there in
       device_row q k m false (takes.devices (sure k m) (first_at f.devices.items w.devices.items n (length p.right.devices) k m h.devices of.devices at)
-      (class_alike p.left.devices p.right.devices k m d.0 e.0 d.1 e.1 image.class) l r)
+      (class_alike p.left.devices p.right.devices k m d.0 e.0 d.1 e.1 image.kind image.class) l r)
 
   match_call : ArePartnersBy Call f.calls.items (proposal_rows q)
   match_call k m at =

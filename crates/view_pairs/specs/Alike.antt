@@ -1,8 +1,9 @@
 -- Which nodes are of one kind, so that they may be partners.
-use Rattle.std.specs.Prelude.{ℕ, Bool, false, ◌==◌, List, Option, Some, None, get_or, length, map}
+use Rattle.std.specs.Prelude.{ℕ, Bool, false, ◌==◌, ◌&&◌, List, Option, Some, None, get_or, length, map}
 use Rattle.std.specs.Prelude.{slice_get, bytes_eq}
 use Rattle.std.specs.Bool.{beq}
 use Rattle.std.specs.List.{list_any, range_with_len}
+use Rattle.plain_netlist.specs.Kinds.{same_device_kind}
 use Rattle.plain_netlist.specs.Netlist.{CallRow, Circuit, DeviceRow}
 use Rattle.view_cross.specs.declared.rows.Kind.{Kind}
 use Rattle.view_cross.specs.declared.rows.Kind.TheVariants.{Net, Pin, Device, Call}
@@ -24,7 +25,7 @@ both same (Some x) None = false
 both same (Some x) (Some y) = same x y
 
 abbrev pub same_class : DeviceRow → DeviceRow → Bool
-same_class d e = bytes_eq d.class e.class
+same_class d e = same_device_kind d.kind e.kind && bytes_eq d.class e.class
 
 abbrev pub same_pair : CallRow → CallRow → Bool
 same_pair c e = c.circuit == e.circuit

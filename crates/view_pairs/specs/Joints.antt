@@ -1,8 +1,9 @@
 -- The terminals of partners, and which of them are met: the nets there are partners too.
-use Rattle.std.specs.Prelude.{ℕ, ◌+◌, Bool, true, false, ◌&&◌, ◌||◌, not, List, [], ◌∷◌, ◌++◌}
+use Rattle.std.specs.Prelude.{ℕ, ◌+◌, Bool, false, ◌&&◌, ◌||◌, not, List, [], ◌∷◌, ◌++◌}
 use Rattle.std.specs.Prelude.{Option, Some, None, get_or, slice_get, if◌then◌else◌}
 use Rattle.match_types.specs.declared.answer.Side.{Side}
 use Rattle.match_types.specs.declared.answer.Side.TheVariants.{Layout, Schematic}
+use Rattle.plain_netlist.specs.Devices.{Ends, NoEnds, Both as TwoEnds, exchanged}
 use Rattle.plain_netlist.specs.Netlist.{CallRow, DeviceRow}
 use Rattle.view_pairs.specs.Partners.{meets, number_in}
 use Rattle.view_pairs.specs.declared.joints.Joint.{Joint}
@@ -15,23 +16,37 @@ is_met nets (Both n m) = meets nets n m
 is_met nets (Left n) = false
 is_met nets (Right m) = false
 
--- source and drain are exchanged where they are met that way only
-abbrev pub is_crossed : Partners → DeviceRow → DeviceRow → Bool
-is_crossed nets d e = not (meets nets d.source e.source || meets nets d.drain e.drain)
-    && (meets nets d.source e.drain || meets nets d.drain e.source)
+-- one of the ends is met by its like
+abbrev pub are_ends_met : Partners → Ends ℕ → Ends ℕ → Bool
+are_ends_met nets (TwoEnds a b) (TwoEnds c d) = meets nets a c || meets nets b d
+are_ends_met nets x y = false
 
-abbrev pub channel_joints : Bool → DeviceRow → DeviceRow → List Joint
-channel_joints true d e = Both d.source e.drain ∷ Both d.drain e.source ∷ []
-channel_joints false d e = Both d.source e.source ∷ Both d.drain e.drain ∷ []
+-- ends are exchanged where they are met that way only
+abbrev pub is_crossed : Partners → Ends ℕ → Ends ℕ → Bool
+is_crossed nets x y = not (are_ends_met nets x y) && are_ends_met nets x (exchanged y)
+
+abbrev pub end_joints : Ends ℕ → Ends ℕ → List Joint
+end_joints (TwoEnds a b) (TwoEnds c d) = Both a c ∷ Both b d ∷ []
+end_joints x y = []
+
+-- terminals with places of their own, place by place
+abbrev pub other_joints : List ℕ → List ℕ → List Joint
+other_joints [] ms = []
+other_joints (n ∷ ns) [] = []
+other_joints (n ∷ ns) (m ∷ ms) = Both n m ∷ other_joints ns ms
+
+-- the ends, exchanged or not
+abbrev pub met_joints : Partners → Ends ℕ → Ends ℕ → List Joint
+met_joints nets x y = end_joints x (if is_crossed nets x y then exchanged y else y)
 
 abbrev pub device_joints : Partners → DeviceRow → DeviceRow → List Joint
-device_joints nets d e =
-    Both d.gate e.gate ∷ Both d.bulk e.bulk ∷ channel_joints (is_crossed nets d e) d e
+device_joints nets d e = other_joints d.others e.others ++ met_joints nets d.ends e.ends
 
--- the nets of a node without a partner
-abbrev pub device_nets : DeviceRow → List ℕ
-device_nets d = d.gate ∷ d.bulk ∷ d.source ∷ d.drain ∷ []
+abbrev pub ends_seen : Option (ℕ × ℕ) → Ends ℕ
+ends_seen None = NoEnds
+ends_seen (Some x) = TwoEnds x.0 x.1
 
+-- a net of a node without a partner
 abbrev pub lone : Side → ℕ → Joint
 lone Layout n = Left n
 lone Schematic n = Right n

@@ -1,5 +1,5 @@
 -- How partners are marked.
-use Rattle.std.specs.Prelude.{ℕ, ◌==◌, Bool, true, false, ◌&&◌, ◌||◌, not, List, [], ◌++◌}
+use Rattle.std.specs.Prelude.{ℕ, Bool, true, false, ◌&&◌, ◌||◌, not, List, [], ◌++◌}
 use Rattle.std.specs.Prelude.{Option, Some, None, get_or, length, bytes_eq}
 use Rattle.std.specs.List.{list_all}
 use Rattle.net_names.specs.Folding.{folded_bytes}
@@ -58,7 +58,7 @@ sized_mark Matched false = Warned
 sized_mark m same = m
 
 abbrev pub same_sizes : DeviceRow → DeviceRow → Bool
-same_sizes d e = (d.length == e.length) && (d.width == e.width)
+same_sizes d e = bytes_eq d.sizes e.sizes
 
 -- devices: each terminal is met
 abbrev pub device_mark : Partners → DeviceRow → DeviceRow → Partner → Mark

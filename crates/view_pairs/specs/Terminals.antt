@@ -1,8 +1,9 @@
 -- The terminals of all devices and calls of a pair, with those of their partners.
 use Rattle.std.specs.Prelude.{ℕ, List, [], ◌∷◌, ◌++◌, Option, Some, None, slice_get}
 use Rattle.match_types.specs.declared.answer.Side.TheVariants.{Layout, Schematic}
+use Rattle.plain_netlist.specs.Devices.{terminal_nets}
 use Rattle.plain_netlist.specs.Netlist.{CallRow, Circuit}
-use Rattle.view_pairs.specs.Joints.{call_joints, device_joints, device_nets, lone_joints}
+use Rattle.view_pairs.specs.Joints.{call_joints, device_joints, lone_joints}
 use Rattle.view_pairs.specs.declared.joints.Joint.{Joint}
 use Rattle.view_pairs.specs.declared.partners.Partner.{Partner}
 use Rattle.view_pairs.specs.declared.partners.Partners.{Partners}
@@ -35,8 +36,8 @@ free_joints nets rights (m ∷ ms) =
 -- those of the devices
 abbrev pub joints_of_devices : Circuit → Circuit → Partners → Partners → List Joint
 joints_of_devices a b nets x =
-    left_joints device_nets (device_joints nets) b.devices a.devices x.lefts.items
-    ++ free_joints device_nets b.devices x.free.items
+    left_joints terminal_nets (device_joints nets) b.devices a.devices x.lefts.items
+    ++ free_joints terminal_nets b.devices x.free.items
 
 abbrev pub call_nets : CallRow → List ℕ
 call_nets c = c.nets

@@ -90,7 +90,7 @@ fn are_one_class(d: Option<&DeviceRow>, e: Option<&DeviceRow>) -> bool
 {
     match d {
         Some(left) => match e {
-            Some(right) => left.class == right.class,
+            Some(right) => left.kind.is(right.kind) && left.class == right.class,
             None => false,
         },
         None => false,

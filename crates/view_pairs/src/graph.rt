@@ -6,6 +6,7 @@ use crate::proposal::Proposal;
 use list_base::number;
 use match_graph::Sizes;
 use net_model::{CallRow, Circuit, DeviceRow};
+use plain_netlist::DeviceKind;
 use std::alloc::{AllocError, Global};
 
 /// A terminal as one of its two nodes sees it.
@@ -27,11 +28,11 @@ pub struct Graph {
     begins: Vec<usize>,
 }
 
-const CHANNEL: u64 = 0;
+const EITHER_END: u64 = 0;
 
-const GATE: u64 = 1;
+const FIRST_OTHER: u64 = 1;
 
-const BULK: u64 = 2;
+const SECOND_OTHER: u64 = 2;
 
 const FIRST_PIN: u64 = 3;
 
@@ -55,10 +56,15 @@ fn push_device(
     owner: u32,
     d: &DeviceRow,
 ) -> Result<(), AllocError> {
-    push_edge(ends, owner, CHANNEL, first.wrapping_add(d.source))?;
-    push_edge(ends, owner, GATE, first.wrapping_add(d.gate))?;
-    push_edge(ends, owner, CHANNEL, first.wrapping_add(d.drain))?;
-    push_edge(ends, owner, BULK, first.wrapping_add(d.bulk))
+    let ports: &[u64] = match d.kind {
+        DeviceKind::Mos4 => &[EITHER_END, FIRST_OTHER, EITHER_END, SECOND_OTHER],
+        DeviceKind::ResistorWithBulk => &[EITHER_END, FIRST_OTHER, EITHER_END],
+        DeviceKind::Diode => &[FIRST_OTHER, SECOND_OTHER],
+    };
+    for (port, net) in ports.iter().zip(d.terminal_nets()) {
+        push_edge(ends, owner, *port, first.wrapping_add(*net))?;
+    }
+    Ok(())
 }
 
 fn push_devices(

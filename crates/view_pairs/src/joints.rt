@@ -1,12 +1,13 @@
 //! Terminals of partners, and whether they are met.
 
-ghost use Rattle.std.specs.Prelude.{◌≡◌, ◌++◌, IfOk, OnOk, [], get_or, slice_get};
+ghost use Rattle.std.specs.Prelude.{◌≡◌, ◌++◌, ◌≤◌, ◌||◌, IfOk, OnOk, [], get_or, slice_get, take};
 ghost use Rattle.std.specs.List.{list_all};
 ghost use Rattle.net_model.specs.Rows.{plain_call, plain_device};
-ghost use Rattle.view_pairs.specs.Joints.{call_joints, channel_joints, device_joints, device_nets};
-ghost use Rattle.view_pairs.specs.Joints.{is_crossed, is_met, joint_at, lone, lone_joints, net_in};
+ghost use Rattle.view_pairs.specs.Joints.{call_joints, device_joints, ends_seen, met_joints};
+ghost use Rattle.view_pairs.specs.Joints.{other_joints};
+ghost use Rattle.view_pairs.specs.Joints.{is_met, joint_at, lone, lone_joints, net_in};
 ghost use Rattle.view_pairs.specs.Joints.{odd_left, odd_lefts, odd_right, odd_rights, pin_joints};
-ghost use Rattle.view_pairs.specs.Partners.{number_in};
+ghost use Rattle.view_pairs.specs.Partners.{meets, number_in};
 ghost use Rattle.view_pairs.specs.Rows.{pins_of};
 
 use crate::alike::number_at;
@@ -15,6 +16,7 @@ use crate::proposal::Proposal;
 use list_base::number;
 use match_types::Side;
 use net_model::{CallRow, DeviceRow};
+use plain_netlist::DeviceKind;
 use std::alloc::{AllocError, Global};
 
 /// The nets at a terminal of a left node and of its partner; or the only one's, where a node has no
@@ -51,30 +53,66 @@ pub fn are_met(nets: &Partners, joints: &[Joint]) -> bool
     true
 }
 
-fn is_crossed(nets: &Partners, d: &DeviceRow, e: &DeviceRow) -> bool
-    ensures { result ≡ is_crossed nets.now (plain_device d.now) (plain_device e.now) }
+// The two ends, if the device has such.
+fn ends_of(d: &DeviceRow) -> Option<(u32, u32)>
+    ensures { ends_seen result ≡ (plain_device d.now).ends }
 {
-    if nets.meet(d.source, e.source) || nets.meet(d.drain, e.drain) {
-        return false;
+    match d.kind {
+        DeviceKind::Mos4 => Some((d.nets[2], d.nets[0])),
+        DeviceKind::ResistorWithBulk => Some((d.nets[2], d.nets[0])),
+        DeviceKind::Diode => None,
     }
-    nets.meet(d.source, e.drain) || nets.meet(d.drain, e.source)
 }
 
-fn push_channel(
-    out: &mut Vec<Joint>,
-    crossed: bool,
-    d: &DeviceRow,
-    e: &DeviceRow,
-) -> Result<(), AllocError>
-    ensures { OnOk result (out.new.items ≡ out.old.items
-        ++ channel_joints crossed (plain_device d.now) (plain_device e.now)) }
+fn are_ends_met(nets: &Partners, x: (u32, u32), y: (u32, u32)) -> bool
+    ensures { result ≡ meets nets.now x.0 y.0 || meets nets.now x.1 y.1 }
 {
-    if crossed {
-        out.push(Joint::Both(d.source, e.drain))?;
-        out.push(Joint::Both(d.drain, e.source))?;
-    } else {
-        out.push(Joint::Both(d.source, e.source))?;
-        out.push(Joint::Both(d.drain, e.drain))?;
+    nets.meet(x.0, y.0) || nets.meet(x.1, y.1)
+}
+
+fn push_ends(
+    out: &mut Vec<Joint>,
+    nets: &Partners,
+    x: Option<(u32, u32)>,
+    y: Option<(u32, u32)>,
+) -> Result<(), AllocError>
+    ensures { OnOk result (out.new.items ≡ out.old.items ++ met_joints nets.now (ends_seen x) (ends_seen y)) }
+{
+    let (Some(ends), Some(others)) = (x, y) else {
+        return Ok(());
+    };
+    let turned = (others.1, others.0);
+    let is_crossed = !are_ends_met(nets, ends, others) && are_ends_met(nets, ends, turned);
+    let right = if is_crossed { turned } else { others };
+    out.push(Joint::Both(ends.0, right.0))?;
+    out.push(Joint::Both(ends.1, right.1))?;
+    Ok(())
+}
+
+// The other terminals: so many of these, in their order.
+fn others_of(d: &DeviceRow) -> ([u32; 2], usize)
+    ensures few { result.1 ≤ 2 }
+    ensures others { take result.1 result.0 ≡ (plain_device d.now).others }
+{
+    match d.kind {
+        DeviceKind::Mos4 => ([d.nets[1], d.nets[3]], 2),
+        DeviceKind::ResistorWithBulk => ([d.nets[1], 0], 1),
+        DeviceKind::Diode => ([d.nets[0], d.nets[1]], 2),
+    }
+}
+
+fn push_others(out: &mut Vec<Joint>, lefts: &[u32], rights: &[u32]) -> Result<(), AllocError>
+    ensures { OnOk result (out.new.items ≡ out.old.items ++ other_joints lefts.now rights.now) }
+{
+    let mut rest = lefts;
+    let mut behind = rights;
+    'others: while let [n, more @ ..] = rest {
+        let [m, later @ ..] = behind else {
+            return Ok(());
+        };
+        out.push(Joint::Both(*n, *m))?;
+        rest = more;
+        behind = later;
     }
     Ok(())
 }
@@ -89,9 +127,10 @@ pub fn push_device(
     ensures { OnOk result (out.new.items ≡ out.old.items
         ++ device_joints nets.now (plain_device d.now) (plain_device e.now)) }
 {
-    out.push(Joint::Both(d.gate, e.gate))?;
-    out.push(Joint::Both(d.bulk, e.bulk))?;
-    push_channel(out, is_crossed(nets, d, e), d, e)
+    let (lefts, left_count) = others_of(d);
+    let (rights, right_count) = others_of(e);
+    push_others(out, &lefts[..left_count], &rights[..right_count])?;
+    push_ends(out, nets, ends_of(d), ends_of(e))
 }
 
 fn lone(side: Side, n: u32) -> Joint
@@ -103,20 +142,8 @@ fn lone(side: Side, n: u32) -> Joint
     }
 }
 
-/// Adds the nets of a device that has no partner.
-pub fn push_lone_device(out: &mut Vec<Joint>, side: Side, d: &DeviceRow) -> Result<(), AllocError>
-    ensures { OnOk result (out.new.items ≡ out.old.items
-        ++ lone_joints side (device_nets (plain_device d.now))) }
-{
-    out.push(lone(side, d.gate))?;
-    out.push(lone(side, d.bulk))?;
-    out.push(lone(side, d.source))?;
-    out.push(lone(side, d.drain))?;
-    Ok(())
-}
-
-/// Adds the nets of a call that has none.
-pub fn push_lone_call(out: &mut Vec<Joint>, side: Side, nets: &[u32]) -> Result<(), AllocError>
+/// Adds the nets of a device or call that has no partner.
+pub fn push_lone(out: &mut Vec<Joint>, side: Side, nets: &[u32]) -> Result<(), AllocError>
     ensures { OnOk result (out.new.items ≡ out.old.items ++ lone_joints side nets.now) }
 {
     let mut rest = nets;

@@ -20,6 +20,7 @@ mod terminals;
 mod wanted;
 
 pub use alike::{call_at, device_at};
+pub use marks::same_sizes;
 pub use pairs::proposals;
 pub use partners::{Partner, Partners};
 pub use proposal::Proposal;

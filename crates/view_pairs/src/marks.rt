@@ -1,6 +1,6 @@
 //! How partners are marked.
 
-ghost use Rattle.std.specs.Prelude.{◌≡◌, [], IfOk, bytes_eq, get_or};
+ghost use Rattle.std.specs.Prelude.{◌≡◌, [], IfOk, bytes_eq, get_or, map};
 ghost use Rattle.std.specs.Option.{option_map};
 ghost use Rattle.net_names.specs.Folding.{folded_bytes};
 ghost use Rattle.net_model.specs.Rows.{plain_call, plain_circuit, plain_device};
@@ -16,6 +16,7 @@ use crate::joints::{Joint, are_met, odd_lefts, odd_rights, push_call, push_devic
 use crate::partners::{Partner, Partners};
 use crate::proposal::Proposal;
 use crate::terminals::joints_of;
+use fixed_num::Femto;
 use net_model::{CallRow, Circuit, DeviceRow};
 use net_names::{Name, folded};
 use std::alloc::{AllocError, Global};
@@ -182,10 +183,17 @@ fn sized_mark(mark: Mark, same: bool) -> Mark
     }
 }
 
-fn same_sizes(d: &DeviceRow, e: &DeviceRow) -> bool
+/// Whether two devices have the same sizes.
+pub fn same_sizes(d: &DeviceRow, e: &DeviceRow) -> bool
     ensures { result ≡ same_sizes (plain_device d.now) (plain_device e.now) }
 {
-    d.length.0 == e.length.0 && d.width.0 == e.width.0
+    are_equal(d.sizes, e.sizes)
+}
+
+fn are_equal(some: [Femto; 2], others: [Femto; 2]) -> bool
+    ensures { result ≡ bytes_eq (map (λ (f : Femto). f.0) some) (map (λ (f : Femto). f.0) others) }
+{
+    some[0].0 == others[0].0 && some[1].0 == others[1].0
 }
 
 fn one_device_mark(

@@ -2,14 +2,15 @@
 
 ghost use Rattle.std.specs.Prelude.{◌≡◌, ◌++◌, IfOk, OnOk, map, slice_get};
 ghost use Rattle.net_model.specs.Rows.{plain_call, plain_circuit, plain_device};
-ghost use Rattle.view_pairs.specs.Joints.{call_joints, device_joints, device_nets};
+ghost use Rattle.plain_netlist.specs.Devices.{terminal_nets};
+ghost use Rattle.view_pairs.specs.Joints.{call_joints, device_joints};
 ghost use Rattle.view_pairs.specs.Marks.{joints_of};
 ghost use Rattle.view_pairs.specs.Rows.{pins_of};
 ghost use Rattle.view_pairs.specs.Terminals.{call_nets, entry_joints, free_joint, free_joints};
 ghost use Rattle.view_pairs.specs.Terminals.{joints_of_calls, joints_of_devices, left_joints};
 
 use crate::alike::{call_at, device_at};
-use crate::joints::{Joint, push_call, push_device, push_lone_call, push_lone_device};
+use crate::joints::{Joint, push_call, push_device, push_lone};
 use crate::partners::{Partner, Partners};
 use crate::proposal::Proposal;
 use match_types::Side;
@@ -23,7 +24,7 @@ fn push_left_device(
     d: &DeviceRow,
     entry: Option<Partner>,
 ) -> Result<(), AllocError>
-    ensures { OnOk result (out.new.items ≡ out.old.items ++ entry_joints device_nets
+    ensures { OnOk result (out.new.items ≡ out.old.items ++ entry_joints terminal_nets
         (device_joints nets.now) (map plain_device rights.now) (plain_device d.now) entry) }
 {
     match entry {
@@ -31,7 +32,7 @@ fn push_left_device(
             Some(e) => push_device(out, nets, d, e),
             None => Ok(()),
         },
-        None => push_lone_device(out, Side::Layout, d),
+        None => push_lone(out, Side::Layout, d.terminal_nets()),
     }
 }
 
@@ -42,7 +43,7 @@ fn push_left_devices(
     lefts: &[DeviceRow],
     entries: &[Option<Partner>],
 ) -> Result<(), AllocError>
-    ensures { OnOk result (out.new.items ≡ out.old.items ++ left_joints device_nets
+    ensures { OnOk result (out.new.items ≡ out.old.items ++ left_joints terminal_nets
         (device_joints nets.now) (map plain_device rights.now) (map plain_device lefts.now)
         entries.now) }
 {
@@ -61,10 +62,10 @@ fn push_left_devices(
 
 fn push_free_device(out: &mut Vec<Joint>, rights: &[DeviceRow], k: u32) -> Result<(), AllocError>
     ensures { OnOk result (out.new.items ≡ out.old.items
-        ++ free_joint device_nets (slice_get (map plain_device rights.now) k)) }
+        ++ free_joint terminal_nets (slice_get (map plain_device rights.now) k)) }
 {
     match device_at(rights, k) {
-        Some(e) => push_lone_device(out, Side::Schematic, e),
+        Some(e) => push_lone(out, Side::Schematic, e.terminal_nets()),
         None => Ok(()),
     }
 }
@@ -75,7 +76,7 @@ fn push_free_devices(
     free: &[u32],
 ) -> Result<(), AllocError>
     ensures { OnOk result (out.new.items ≡ out.old.items
-        ++ free_joints device_nets (map plain_device rights.now) free.now) }
+        ++ free_joints terminal_nets (map plain_device rights.now) free.now) }
 {
     let mut rest = free;
     'devices: while let [k, more @ ..] = rest {
@@ -114,7 +115,7 @@ fn push_left_call(
             Some(e) => push_call(out, before, c, e),
             None => Ok(()),
         },
-        None => push_lone_call(out, Side::Layout, &c.nets),
+        None => push_lone(out, Side::Layout, &c.nets),
     }
 }
 
@@ -147,7 +148,7 @@ fn push_free_call(out: &mut Vec<Joint>, rights: &[CallRow], k: u32) -> Result<()
         ++ free_joint call_nets (slice_get (map plain_call rights.now) k)) }
 {
     match call_at(rights, k) {
-        Some(e) => push_lone_call(out, Side::Schematic, &e.nets),
+        Some(e) => push_lone(out, Side::Schematic, &e.nets),
         None => Ok(()),
     }
 }

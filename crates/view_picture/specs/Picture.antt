@@ -15,6 +15,7 @@ use Rattle.spice_text.specs.Needs.{first_seen}
 use Rattle.view_drawing.specs.Devices.{Area, areas_of}
 use Rattle.view_drawing.specs.Drawn.{AreAllThere, AreListsOf, IsCellDrawn, listed_tables}
 use Rattle.view_drawing.specs.declared.source.Source.{Source}
+use Rattle.view_file.specs.Regions.{class_in}
 use Rattle.view_file.specs.declared.layout.Picture.{Picture}
 use Rattle.view_file.specs.declared.regions.Region.{Region}
 use Rattle.view_joined.specs.Joined.{IsJoinedDrawing}
@@ -87,7 +88,7 @@ AreAllJoined xs ds (o ∷ os) (c ∷ cs) areas (v ∷ vs) =
 
 -- the regions of a picture
 abbrev pub shown_area : Region → Area
-shown_area r = record { class = r.class.items; rects = r.rects.items }
+shown_area r = record { class = class_in r; rects = r.rects.items }
 
 abbrev pub shown_areas : List Region → List Area
 shown_areas regions = map shown_area regions

@@ -31,8 +31,8 @@ fn regions_of(alloc: Global, found: Vec<Found>) -> Result<Vec<Region>, AllocErro
 {
     let mut out = Vec::new(alloc);
     'regions: for region in found {
-        let Found { class, rects } = region;
-        out.push(Region { class, rects })?;
+        let Found { kind, class, rects } = region;
+        out.push(Region { kind, class, rects })?;
     }
     Ok(out)
 }

@@ -1,10 +1,12 @@
--- The transistors below a circuit of a good netlist, in one list.
+-- The devices below a circuit of a good netlist, in one list.
 use Rattle.std.proofs.Common.{◌≡◌, inl, inr, ◌+◌, ◌<◌, ℕ, zero, suc, List, [], ◌∷◌, ◌++◌, map, Option, Some, None, slice_get, refl, sym, ap, subst, ◌∙◌, arith}
 use Rattle.merge_laws.specs.Merge.{Known}
 use Rattle.plain_netlist.proofs.Members.{in_left, in_right, either_side}
-use Rattle.plain_netlist.specs.Flats.{Row, row_at}
+use Rattle.plain_netlist.specs.Devices.{Row, row_over, terminal_nets}
+use Rattle.plain_netlist.specs.Flats.{row_at}
+use Rattle.plain_netlist.proofs.Rows.{row_over_twice}
 use Rattle.plain_netlist.specs.Lists.{IsListed}
-use Rattle.plain_netlist.specs.Netlist.{CallRow, Circuit, DeviceRow, HasDevice, IsCall, Netlist, Pole, IsSlot, Slot, on, slot}
+use Rattle.plain_netlist.specs.Netlist.{CallRow, Circuit, DeviceRow, HasDevice, IsCall, Netlist, IsSlot, Slot, slot}
 use Rattle.plain_netlist.specs.Sound.{IsGood}
 
 abbrev circuit_or : Option Circuit → Circuit
@@ -15,10 +17,13 @@ abbrev pub known : List ℕ → ℕ → DeviceRow → Known Slot Slot
 known path i row = record { name = slot path i; row = row_at path row }
 
 abbrev deeper_row : ℕ → Row Slot → Row Slot
-deeper_row k r = record { class = r.class; length = r.length; width = r.width; net = λ (p : Pole). slot (k ∷ (r.net p).path) (r.net p).net }
+deeper_row k r = row_over (λ (s : Slot). slot (k ∷ s.path) s.net) r
 
 abbrev deeper : ℕ → Known Slot Slot → Known Slot Slot
 deeper k d = record { name = slot (k ∷ d.name.path) d.name.net; row = deeper_row k d.row }
+
+known_deeper : (k : ℕ) (ks : List ℕ) (i : ℕ) (row : DeviceRow) → deeper k (known ks i row) ≡ known (k ∷ ks) i row
+known_deeper k ks i row = ap (λ (r : Row Slot). let d : Known Slot Slot = record { name = slot (k ∷ ks) i; row = r } in d) (row_over_twice (λ (s : Slot). slot (k ∷ s.path) s.net) (slot ks) row)
 
 -- those of the circuit itself, counted from i
 abbrev owns : ℕ → List DeviceRow → List (Known Slot Slot)
@@ -61,7 +66,7 @@ module _ (nl : Netlist) where
       let rest = subst (λ (m : ℕ). IsListed (deeper m d) (inners all (suc k) xs)) n (inners_there all (suc k) xs j r d e h) in
       in_right (map (deeper k) (all x.circuit)) (inners all (suc k) xs) (deeper (k + suc j) d) rest
 
-  -- each is a transistor below the circuit
+  -- each is a device below the circuit
   abbrev Is : ℕ → Known Slot Slot → Type 0
   Is t d = (row : DeviceRow) × HasDevice nl t d.name.path d.name.net row × (d.row ≡ row_at d.name.path row)
 
@@ -84,7 +89,7 @@ module _ (nl : Netlist) where
   ]
     where
       one : (b : Known Slot Slot) → IsCall nl t k x → Is x.circuit b → Is t (deeper k b)
-      one b call (row, has, e) = (row, (x, call, has), subst (λ (r : Row Slot). deeper_row k r ≡ row_at (k ∷ b.name.path) row) (sym e) refl)
+      one b call (row, has, e) = (row, (x, call, has), ap (deeper_row k) e ∙ row_over_twice (λ (s : Slot). slot (k ∷ s.path) s.net) (slot b.name.path) row)
 
       mapped : (ds : List (Known Slot Slot)) → ((b : Known Slot Slot) → IsListed b ds → Is x.circuit b) → IsCall nl t k x → IsListed d (map (deeper k) ds) → Is t d
       mapped [] each call i = absurd i
@@ -103,7 +108,7 @@ module _ (nl : Netlist) where
       ]
 
   module _ (height : ℕ → ℕ) (good : IsGood nl height) where
-    -- each transistor below the circuit is listed
+    -- each device below the circuit is listed
     pub listed_below : (n t : ℕ) (path : List ℕ) (i : ℕ) (row : DeviceRow) → height t < n → HasDevice nl t path i row → IsListed (known path i row) (all_below n t)
     listed_below zero t path i row low h = absurd (omega (arith, low))
     listed_below (suc n) t [] i row low (c, is, at) =
@@ -114,9 +119,9 @@ module _ (nl : Netlist) where
         let lower = good.lower t k r (c, is, at) in
         let inner = listed_below n r.circuit ks i row (omega (arith, low, lower)) h in
         subst (λ (o : Option Circuit). IsListed (known (k ∷ ks) i row) (owns 0 (circuit_or o).devices ++ inners (all_below n) 0 (circuit_or o).calls)) (sym is)
-        (in_right (owns 0 c.devices) (inners (all_below n) 0 c.calls) (known (k ∷ ks) i row) (let m : 0 + k ≡ k = omega arith in subst (λ (m : ℕ). IsListed (deeper m (known ks i row)) (inners (all_below n) 0 c.calls)) m (inners_there (all_below n) 0 c.calls k r (known ks i row) at inner)))
+        (in_right (owns 0 c.devices) (inners (all_below n) 0 c.calls) (known (k ∷ ks) i row) (let m : 0 + k ≡ k = omega arith in subst (λ (d : Known Slot Slot). IsListed d (inners (all_below n) 0 c.calls)) (known_deeper k ks i row) (subst (λ (m : ℕ). IsListed (deeper m (known ks i row)) (inners (all_below n) 0 c.calls)) m (inners_there (all_below n) 0 c.calls k r (known ks i row) at inner))))
 
     -- its terminals are on nets
-    pub terminal_there : (t : ℕ) (path : List ℕ) (i : ℕ) (row : DeviceRow) (pole : Pole) → HasDevice nl t path i row → IsSlot nl t path (on pole row)
-    terminal_there t [] i row pole h = good.within.devices t i row pole h
-    terminal_there t (k ∷ ks) i row pole (r, call, h) = (r, call, terminal_there r.circuit ks i row pole h)
+    pub terminal_there : (t : ℕ) (path : List ℕ) (i n : ℕ) (row : DeviceRow) → HasDevice nl t path i row → IsListed n (terminal_nets row) → IsSlot nl t path n
+    terminal_there t [] i n row h on = good.within.devices t i n row h on
+    terminal_there t (k ∷ ks) i n row (r, call, h) on = (r, call, terminal_there r.circuit ks i n row h on)

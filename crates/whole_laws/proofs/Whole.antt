@@ -1,16 +1,20 @@
--- The class of each transistor is a finite list, and so no transistor is lost.
+-- The class of each device is a finite list, and so no device is lost.
 use Rattle.std.proofs.Common.{◌≡◌, ◌⊎◌, inl, inr, ℕ, suc, Bool, true, false, true≢false, List, [], ◌∷◌, refl, sym, ap, subst, ◌∙◌, arith}
-use Rattle.std.proofs.Math.Decide.{ℕ_discrete}
 use Rattle.std.proofs.lemmas.Bool.{cases_Bool}
 use Rattle.std.proofs.lemmas.Slice.Eq.{bytes_eq-Decides}
 use Rattle.std.specs.Str.{bytes_eq}
+use Rattle.merge_laws.proofs.Alike.{both_merge}
 use Rattle.merge_laws.proofs.Flats.{class_on}
 use Rattle.merge_laws.proofs.Totals.{one_total}
-use Rattle.merge_laws.specs.Merge.{AreAlike, AreOnce, IsClass, IsMergedWidth, Known, may_merge, total_width, with_width}
+use Rattle.merge_laws.specs.Merge.{AreAlike, AreOnce, IsClass, IsMergedWidth, Known, added_size, may_merge_row, total_width, width_of, with_added, with_width}
 use Rattle.plain_netlist.proofs.Once.{one_device}
-use Rattle.plain_netlist.specs.Flats.{AreRowsAlike, Corresponds, Flat, Row, expanded, row_at}
+use Rattle.plain_netlist.proofs.Rows.{nets_exchanged, nets_first, nets_others, nets_second, same_kind, terminal_over}
+use Rattle.plain_netlist.specs.declared.kinds.DeviceKind.{DeviceKind}
+use Rattle.plain_netlist.specs.Devices.{AreEndsJoined, AreJoined, AreRowsAlike, Both, Ends, NoEnds, Row, exchanged, nets_of, terminal_nets}
+use Rattle.plain_netlist.specs.Flats.{Corresponds, Flat, expanded, row_at}
+use Rattle.plain_netlist.specs.Kinds.{same_device_kind}
 use Rattle.plain_netlist.specs.Lists.{AreApart, IsListed}
-use Rattle.plain_netlist.specs.Netlist.{Bulk, Drain, Gate, HasDevice, InOneNet, Netlist, Pole, Slot, Source}
+use Rattle.plain_netlist.specs.Netlist.{HasDevice, InOneNet, Netlist, Slot, slot}
 use Rattle.plain_netlist.specs.Sound.{IsGood}
 use Rattle.whole_laws.proofs.Listed.{all_below, are_below, known, listed_below, terminal_there}
 use Rattle.whole_laws.proofs.Roots.{one_or_not, slot_or_not}
@@ -41,28 +45,46 @@ bytes_or_not a b = elim (cases_Bool (bytes_eq a b)) [
   | inr f ↦ inr (λ e. true≢false (sym ((bytes_eq-Decides a b).1 e) ∙ f))
 ]
 
-number_or_not : (a b : ℕ) → OrNot (a ≡ b)
-number_or_not a b = elim (ℕ_discrete a b) [ yes e ↦ inl e | no not ↦ inr not ]
+kind_or_not : (a b : DeviceKind) → OrNot (a ≡ b)
+kind_or_not a b = elim (cases_Bool (same_device_kind a b)) [
+  | inl t ↦ inl ((same_kind a b).0 t)
+  | inr f ↦ inr (λ e. true≢false (sym ((same_kind a b).1 e) ∙ f))
+]
+
+joined_or_not : {N : Type 0} (same : N → N → Type 0) (ns ms : List N) → ((n m : N) → IsListed n ns → IsListed m ms → OrNot (same n m)) → OrNot (AreJoined same ns ms)
+joined_or_not same [] [] each = inl tt
+joined_or_not same [] (m ∷ ms) each = inr (λ h. h)
+joined_or_not same (n ∷ ns) [] each = inr (λ h. h)
+joined_or_not same (n ∷ ns) (m ∷ ms) each = both_or_not (each n m (inl refl) (inl refl)) (joined_or_not same ns ms (λ x y i j. each x y (inr i) (inr j)))
+
+ends_or_not : {N : Type 0} (same : N → N → Type 0) (d e : Ends N) (ns ms : List N) → ((n m : N) → IsListed n (nets_of d ns) → IsListed m (nets_of e ms) → OrNot (same n m)) → OrNot (AreEndsJoined same d e)
+ends_or_not same NoEnds NoEnds ns ms each = inl tt
+ends_or_not same NoEnds (Both a b) ns ms each = inr (λ h. h)
+ends_or_not same (Both a b) NoEnds ns ms each = inr (λ h. h)
+ends_or_not same (Both a b) (Both c d) ns ms each = both_or_not (each a c (nets_first a b ns) (nets_first c d ms)) (each b d (nets_second a b ns) (nets_second c d ms))
 
 -- what makes rows alike, as a product
 abbrev Parts : {N : Type 0} → (N → N → Type 0) → Row N → Row N → Type 0
-Parts same r s = (may_merge r.class ≡ true) × ((r.class ≡ s.class) × ((r.length ≡ s.length) × (same (r.net Gate) (s.net Gate) × (same (r.net Bulk) (s.net Bulk)
-    × ((same (r.net Source) (s.net Source) × same (r.net Drain) (s.net Drain)) ⊎ (same (r.net Source) (s.net Drain) × same (r.net Drain) (s.net Source)))))))
+Parts same r s = (may_merge_row r ≡ true) × ((r.kind ≡ s.kind) × ((r.class ≡ s.class) × ((with_added r.sizes 0 ≡ with_added s.sizes 0)
+    × ((AreEndsJoined same r.ends s.ends ⊎ AreEndsJoined same r.ends (exchanged s.ends)) × AreJoined same r.others s.others))))
 
-alike_or_not : {N : Type 0} (same : N → N → Type 0) (r s : Row N) → ((p q : Pole) → OrNot (same (r.net p) (s.net q))) → OrNot (AreAlike same r s)
-alike_or_not same r s ends =
+alike_or_not : {N : Type 0} (same : N → N → Type 0) (r s : Row N) → ((n m : N) → IsListed n (terminal_nets r) → IsListed m (terminal_nets s) → OrNot (same n m)) → OrNot (AreAlike same r s)
+alike_or_not same r s each =
+    let ends = either_or_not (ends_or_not same r.ends s.ends r.others s.others each)
+    (ends_or_not same r.ends (exchanged s.ends) r.others s.others (λ n m i j. each n m i (nets_exchanged s.ends s.others m j))) in
+    let others = joined_or_not same r.others s.others (λ n m i j. each n m (nets_others r.ends r.others n i) (nets_others s.ends s.others m j)) in
     let parts : OrNot (Parts same r s) =
-    both_or_not (true_or_not (may_merge r.class)) (both_or_not (bytes_or_not r.class s.class) (both_or_not (number_or_not r.length s.length) (both_or_not (ends Gate Gate) (both_or_not (ends Bulk Bulk)
-    (either_or_not (both_or_not (ends Source Source) (ends Drain Drain)) (both_or_not (ends Source Drain) (ends Drain Source))))))) in
+    both_or_not (true_or_not (may_merge_row r)) (both_or_not (kind_or_not r.kind s.kind) (both_or_not (bytes_or_not r.class s.class)
+    (both_or_not (bytes_or_not (with_added r.sizes 0) (with_added s.sizes 0)) (both_or_not ends others)))) in
     elim parts [
-      | inl (merges, (class, (length, (gate, (bulk, channel))))) ↦ inl (record { merges = merges; class = class; length = length; gate = gate; bulk = bulk; channel = channel })
-      | inr not ↦ inr (λ a. not (a.merges, (a.class, (a.length, (a.gate, (a.bulk, a.channel))))))
+      | inl (merges, (kind, (class, (sizes, (joined, rest))))) ↦ inl (record { merges = merges; rows = record { kind = kind; class = class; sizes = sizes; ends = joined; others = rest } })
+      | inr not ↦ inr (λ a. not (a.merges, (a.rows.kind, (a.rows.class, (a.rows.sizes, (a.rows.ends, a.rows.others))))))
     ]
 
 -- ---- the class of a row
 
 module _ (F : Flat Slot Slot) (r : Row Slot) where
-  -- of these transistors those alike to the row, each once
+  -- of these devices those alike to the row, each once
   pub record Collected (ds ms : List (Known Slot Slot)) : Type 0 where
     pub each : (d : Known Slot Slot) → IsListed d ms → F.has_device d.name d.row × AreAlike F.one_net r d.row
     pub all : (d : Known Slot Slot) → IsListed d ds → AreAlike F.one_net r d.row → (e : Known Slot Slot) × IsListed e ms × (d.name ≡ e.name)
@@ -113,21 +135,23 @@ module _ (F : Flat Slot Slot) (r : Row Slot) where
         ]
       ]
 
--- ---- no transistor is lost
+-- ---- no device is lost
 
 module _ (nl : Netlist) (height : ℕ → ℕ) (good : IsGood nl height) (t : ℕ) where
   abbrev F : Flat Slot Slot
   F = expanded nl t
 
-  ends_or_not : (a b : Slot) (r s : Row Slot) → F.has_device a r → F.has_device b s → (p q : Pole) → OrNot (InOneNet nl t (r.net p) (s.net q))
-  ends_or_not a b r s (row, has, e) (other, also, f) p q =
-      let one = one_or_not nl height good t ((row_at a.path row).net p) ((row_at b.path other).net q) (terminal_there nl height good t a.path a.net row p has) (terminal_there nl height good t b.path b.net other q also) in
-      subst (λ (z : Row Slot). OrNot (InOneNet nl t (z.net p) (s.net q))) (sym e) (subst (λ (z : Row Slot). OrNot (InOneNet nl t ((row_at a.path row).net p) (z.net q))) (sym f) one)
+  nets_or_not : (a b : Slot) (r s : Row Slot) → F.has_device a r → F.has_device b s → (n m : Slot) → IsListed n (terminal_nets r) → IsListed m (terminal_nets s) → OrNot (InOneNet nl t n m)
+  nets_or_not a b r s (row, has, e) (other, also, f) n m i j =
+      let x = terminal_over (slot a.path) row n (subst (λ (z : Row Slot). IsListed n (terminal_nets z)) e i) in
+      let y = terminal_over (slot b.path) other m (subst (λ (z : Row Slot). IsListed m (terminal_nets z)) f j) in
+      let one = one_or_not nl height good t (slot a.path x.0) (slot b.path y.0) (terminal_there nl height good t a.path a.net x.0 row has x.1) (terminal_there nl height good t b.path b.net y.0 other also y.1) in
+      subst (λ (z : Slot). OrNot (InOneNet nl t z m)) (sym x.2) (subst (λ (z : Slot). OrNot (InOneNet nl t (slot a.path x.0) z)) (sym y.2) one)
 
   class_of : (a : Slot) (r : Row Slot) → F.has_device a r → (ms : List (Known Slot Slot)) × IsClass F r ms
   class_of a r h =
       let all = all_below nl (suc (height t)) t in
-      let got = collect F r all (λ d i. (let is = are_below nl (suc (height t)) t d i in let k : F.has_device d.name d.row = (is.0, is.1, is.2) in (k, alike_or_not (InOneNet nl t) r d.row (ends_or_not a d.name r d.row h k)))) in
+      let got = collect F r all (λ d i. (let is = are_below nl (suc (height t)) t d i in let k : F.has_device d.name d.row = (is.0, is.1, is.2) in (k, alike_or_not (InOneNet nl t) r d.row (nets_or_not a d.name r d.row h k)))) in
       let c = got.1 in (
         got.0,
         record {
@@ -140,12 +164,12 @@ module _ (nl : Netlist) (height : ℕ → ℕ) (good : IsGood nl height) (t : �
       )
 
   whole : IsWhole F
-  whole a r h = elim (cases_Bool (may_merge r.class)) [
+  whole a r h = elim (cases_Bool (may_merge_row r)) [
     | inl merges ↦
         let c = class_of a r h in
         let is : IsMergedWidth F r (total_width c.0) = inl (merges, c.0, c.1, refl) in
         (total_width c.0, is, (r, h, total_width c.0, is, refl))
-    | inr not ↦ let is : IsMergedWidth F r r.width = inr (not, refl) in (r.width, is, (r, h, r.width, is, refl))
+    | inr not ↦ let is : IsMergedWidth F r (width_of r) = inr (not, refl) in (width_of r, is, (r, h, width_of r, is, refl))
   ]
 
 pub merged_whole : MergedWholeLaw
@@ -154,8 +178,8 @@ merged_whole nl height good t = whole nl height good t
 -- nor in what corresponds to it
 module _ {D N E M : Type 0} (F : Flat D N) (G : Flat E M) (device : D → E → Type 0) (net : N → M → Type 0) (h : Corresponds F G device net) where
   width_on : (w : ℕ) (r : Row N) (s : Row M) → AreRowsAlike net r s → IsMergedWidth F r w → IsMergedWidth G s w
-  width_on w r s rows (inl (merges, ds, is, e)) = let k = class_on F G device net h r s ds rows is in inl (subst (λ c. may_merge c ≡ true) rows.class merges, k.0, k.1, e ∙ k.2)
-  width_on w r s rows (inr (not, e)) = inr (subst (λ c. may_merge c ≡ false) rows.class not, e ∙ rows.width)
+  width_on w r s rows (inl (merges, ds, is, e)) = let k = class_on F G device net h r s ds rows is in inl (sym (both_merge net r s rows) ∙ merges, k.0, k.1, e ∙ k.2)
+  width_on w r s rows (inr (not, e)) = inr (sym (both_merge net r s rows) ∙ not, e ∙ ap added_size rows.sizes)
 
   pub whole_on : IsWhole F → IsWhole G
   whole_on all y s has =

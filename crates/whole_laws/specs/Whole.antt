@@ -1,11 +1,12 @@
--- That no transistor is lost where each class of alike ones is one.
+-- That no device is lost where each class of alike ones is one.
 use Rattle.std.specs.Prelude.{◌≡◌, ℕ}
 use Rattle.merge_laws.specs.Merge.{IsMergedWidth, merged, with_width}
-use Rattle.plain_netlist.specs.Flats.{Flat, Row, expanded}
+use Rattle.plain_netlist.specs.Devices.{Row}
+use Rattle.plain_netlist.specs.Flats.{Flat, expanded}
 use Rattle.plain_netlist.specs.Netlist.{Netlist, Slot}
 use Rattle.plain_netlist.specs.Sound.{IsGood}
 
--- each transistor has a row there: those alike to it are a finite class, with a sum of widths
+-- each device has a row there: those alike to it are a finite class, with a sum of widths
 abbrev pub IsWhole : {D N : Type 0} → Flat D N → Type 0
 IsWhole {D} {N} F = (a : D) (r : Row N) → F.has_device a r
     → (w : ℕ) × IsMergedWidth F r w × (merged F).has_device a (with_width r w)

@@ -1,9 +1,9 @@
-use Rattle.spice_laws.proofs.GivenLemmas.{cards, writable}
+use Rattle.spice_laws.proofs.GivenLemmas.{formed, writable}
 use Rattle.spice_laws.proofs.extracted_text.Goals as goal
 
 pub returns : goal.returns
 returns c = record {
-  cards = cards;
+  formed = formed;
   writable = writable;
   means = λ d w t g nl rules unit level text right classed spelled sound h.
       c.written_laws.ensures.written nl text sound (c.sound_netlist.ensures.good d w t g nl rules unit level right).1

@@ -11,7 +11,7 @@ use Rattle.rule_layers.specs.Meaning.{device_rules}
 use Rattle.rule_text.specs.Seen.{rules_seen}
 use Rattle.circuit_phase.specs.Numbering.{AreNumbersOf}
 use Rattle.circuit_phase.proofs.Assembling.{all_drawn, made_of}
-use Rattle.net_marks.proofs.Poles.{gate_of}
+use Rattle.net_marks.proofs.Listed.{gate_of}
 use Rattle.circuit_phase.proofs.Leading.{pins_low}
 use Rattle.circuit_phase.proofs.made.cell_circuit.Goals as goal
 

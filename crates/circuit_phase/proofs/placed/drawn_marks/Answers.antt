@@ -10,7 +10,7 @@ use Rattle.deep_tables.specs.Nets.{plain_item, plain_nets}
 use Rattle.flat_layout.specs.Circuits.{AreDrawn}
 use Rattle.net_marks.specs.Marks.{has_terminal}
 use Rattle.circuit_phase.specs.Placed.{is_child_marked, is_marked_by, tables_with}
-use Rattle.net_marks.proofs.Poles.{gate_of}
+use Rattle.net_marks.proofs.Listed.{gate_of}
 use Rattle.circuit_phase.proofs.Drawing.{drawn_of, false_long, readable, written}
 use Rattle.circuit_phase.proofs.placed.drawn_marks.Goals as goal
 

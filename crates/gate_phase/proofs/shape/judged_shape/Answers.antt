@@ -9,7 +9,7 @@ use Rattle.rule_text.specs.Seen.{rules_seen}
 use Rattle.rule_layers.specs.Formulas.{formulas}
 use Rattle.rule_layers.specs.Meaning.{wiring_of}
 use Rattle.gate_search.specs.Gather.{AreMet}
-use Rattle.gate_phase.specs.Devices.{kind_seen, layer_in}
+use Rattle.gate_phase.specs.Devices.{layer_in}
 use Rattle.gate_phase.specs.Kept.{HasLocals}
 use Rattle.gate_phase.specs.Shape.{IsGateSheet}
 use Rattle.gate_phase.proofs.Locals.{locals_of}
@@ -37,7 +37,7 @@ returns c =
     let tg : formula w u.tg ≡ get_or f x.tg Empty = ap (λ n. formula w n) is.tg ∙ c.requires.device.tg.read in
     let tb : formula w u.tb ≡ get_or f x.tb Empty = ap (λ n. formula w n) is.tb ∙ c.requires.device.tb.read in
     let sheet = c.requires.sheet (get_or f x.tg Empty) (locals_of d r layers x.tg c.requires.ready.layers c.requires.device.tg.known c.requires.ready.rules) in
-    let sheet_of = subst (λ k. IsGateSheet k (IsKept d cell (formula w u.tg)) close part c.args.on_gate.now) (sym is.kind) (subst (λ (v : Formula). IsGateSheet (kind_seen x.kind) (IsKept d cell v) close part c.args.on_gate.now) (sym tg) sheet) in
+    let sheet_of = subst (λ k. IsGateSheet k (IsKept d cell (formula w u.tg)) close part c.args.on_gate.now) (sym is.kind) (subst (λ (v : Formula). IsGateSheet x.kind (IsKept d cell v) close part c.args.on_gate.now) (sym tg) sheet) in
     look_where_loose d w u cell s part groups on_ends c.args.on_gate.now on_bulk c.is_loose-loose.result shape here.squares
     (exact_near d (geometry w u) cell s part close groups u.sd here read.sd (as_named u.sd _ groups sd (is_met c.args.ends groups c.requires.ends c.requires.groups)))
     (exact_near d (geometry w u) cell s part close on_ends (formula w u.ts) here read.ts (as_named (formula w u.ts) _ on_ends ts (is_met x.ts on_ends c.requires.device.ts.known c.requires.on_ends)))

@@ -1,6 +1,6 @@
 use Rattle.std.proofs.Common.{◌≡◌, ◌++◌, map, take}
 use Rattle.std.specs.Prelude.{flat_map}
-use Rattle.plain_netlist.specs.Normal.{terminal_nets}
+use Rattle.plain_netlist.specs.Devices.{terminal_nets}
 use Rattle.net_model.specs.Rows.{plain_device}
 use Rattle.net_align.proofs.sights.add_terminals.Given as goal
 

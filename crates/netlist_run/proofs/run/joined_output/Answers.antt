@@ -13,5 +13,5 @@ returns-in-Ok-clause-output c =
 
 pub returns-in-Err-clause-refused : goal.returns-in-Err-clause-refused
 returns-in-Err-clause-refused c =
-    not_joined c.args.files.now (asked_seen c.args.command.now) c.in-Err.fault c.join_stop.result
+    not_joined c.args.files.now (asked_seen c.args.command.now) c.in-Err.fault c.join_stop.result c.joined_laws.ensures c.requires.asked c.requires.inputs
     (subst (λ (n : ℕ). SaysFault c.in-Err.fault (joined c.args.files.now n c.args.command.now.has_title)) c.input_count-count.ensures c.in-Err.ensures.fault) c.join_stop.ensures

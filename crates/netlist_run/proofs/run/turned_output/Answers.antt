@@ -13,7 +13,7 @@ pub returns-in-Ok-clause-output : goal.returns-in-Ok-clause-output
 returns-in-Ok-clause-output c =
     output_is c.tried.result c.args.files.now c.args.joined.now (asked_seen c.args.command.now) c.args.settings.now (seen c.in-Ok.turned) c.requires
     (subst (λ (bytes : List ℕ). turned c.args.settings.now bytes ≡ Ok (seen c.in-Ok.turned)) c.as_slice.ensures.value c.in-Ok.ensures.made) c.tried.ensures.text
-    (subst (λ (os : List Origin). IfOk c.tried.result (λ o. o.lines.items ≡ told_text c.args.command.now.has_title c.args.files.now os (seen c.in-Ok.turned).told (length (seen c.in-Ok.turned).lines))) c.as_slice-origins.ensures.value c.tried.ensures.lines)
+    c.tried.ensures.lines
     c.tried.ensures.accepted
 
 pub returns-in-Err-clause-refused : goal.returns-in-Err-clause-refused

@@ -1,7 +1,7 @@
 use Rattle.std.proofs.Common.{◌≡◌, ◌++◌, map, length}
 use Rattle.std.specs.Prelude.{flat_map}
 use Rattle.net_model.specs.Rows.{plain_device}
-use Rattle.plain_netlist.specs.Normal.{terminal_nets}
+use Rattle.plain_netlist.specs.Devices.{terminal_nets}
 use Rattle.part_origins.proofs.nets.add_named.Given as goal
 
 abbrev pub invariant-rows : goal.invariant-rows

@@ -4,7 +4,7 @@ use Rattle.plain_netlist.specs.Netlist.{Circuit as PlainCircuit}
 use Rattle.net_model.specs.Rows.{plain_circuit}
 use Rattle.net_model.specs.declared.netlist.Circuit.{Circuit}
 use Rattle.spice_text.specs.Written.{AreOneByOne, IsCircuitText, HasWritten}
-use Rattle.spice_text.proofs.WriteLemmas.{at_place, one_more, done, split, start}
+use Rattle.spice_text.proofs.WriteLemmas.{one_more, done, split, start}
 use Rattle.spice_text.proofs.write.write_circuits.Goals as goal
 
 pub circuits-init : goal.circuits-init
@@ -26,6 +26,3 @@ returns c =
     done (AreOneByOne (IsCircuitText (map plain_circuit c.args.circuits.now)) []) whole c.args.out.now.items c.circuits.out.items refl
     (subst (λ (ds : List Circuit). HasWritten (AreOneByOne (IsCircuitText (map plain_circuit c.args.circuits.now)) (map plain_circuit ds)) whole c.args.out.now.items c.circuits.out.items)
     (drop_all c.circuits.i c.args.circuits.now c.circuits-test.false) c.circuits.invariant)
-
-pub write_circuit-requires : goal.write_circuit-requires
-write_circuit-requires c = c.requires c.circuits.i (plain_circuit c.index-circuits-i.result) (at_place plain_circuit c.args.circuits.now c.circuits.i c.index-circuits-i.result c.circuits-test.true c.index-circuits-i.is)

@@ -4,7 +4,7 @@ use Rattle.plain_netlist.specs.Netlist.{DeviceRow as PlainDevice}
 use Rattle.net_model.specs.Rows.{plain_device}
 use Rattle.net_model.specs.declared.netlist.DeviceRow.{DeviceRow}
 use Rattle.spice_text.specs.Written.{AreTexts, IsDeviceText, HasWritten}
-use Rattle.spice_text.proofs.WriteLemmas.{at_place, more, done, split, start}
+use Rattle.spice_text.proofs.WriteLemmas.{more, done, split, start}
 use Rattle.spice_text.proofs.write.write_devices.Goals as goal
 
 pub devices-init : goal.devices-init
@@ -26,6 +26,3 @@ returns c =
     done (AreTexts (IsDeviceText c.args.nets.now) (c.devices.i + 1) []) whole c.args.out.now.items c.devices.out.items refl
     (subst (λ (ds : List DeviceRow). HasWritten (AreTexts (IsDeviceText c.args.nets.now) (c.devices.i + 1) (map plain_device ds)) whole c.args.out.now.items c.devices.out.items)
     (drop_all c.devices.i c.args.devices.now c.devices-test.false) c.devices.invariant)
-
-pub write_device-requires : goal.write_device-requires
-write_device-requires c = c.requires c.devices.i (plain_device c.index-devices-i.result) (at_place plain_device c.args.devices.now c.devices.i c.index-devices-i.result c.devices-test.true c.index-devices-i.is)

@@ -1,10 +1,11 @@
-use Rattle.std.proofs.Common.{inl, inr, ◌∷◌, ◌-◌, ◌∙◌, ℕ, List, drop, length, map, subst, sym, take}
+use Rattle.std.proofs.Common.{inl, inr, ◌∷◌, ◌-◌, ◌∙◌, List, drop, length, map, subst, sym, take}
 use Rattle.base_laws.proofs.Lists.{none_left}
 use Rattle.std.proofs.lemmas.Result.{err_from_is_err_and}
 use Rattle.deep_tables.specs.declared.gates.Gate.{Gate}
 use Rattle.net_model.specs.Rows.{plain_device}
 use Rattle.plain_netlist.specs.Netlist.{DeviceRow}
 use Rattle.view_netlist.specs.declared.drawing.DevicePlace.{DevicePlace}
+use Rattle.view_netlist.specs.Kinds.{Class, class_of}
 use Rattle.view_drawing.specs.Devices.{IsPlaceOf, areas_of}
 use Rattle.view_drawing.specs.Far.{HasFarGate}
 use Rattle.view_drawing.proofs.Placing.{Goes, added_twice, front, front_is, goes_end, goes_good, goes_short, nil_of}
@@ -32,7 +33,7 @@ gates-preserved-then-is_good c =
     subst (λ (l : List Gate). Goes now l (map plain_device rest) out gates rows) (front_is left gate c.in-len1-up.len_at_least c.gate-item.is) c.gates.invariant.goes in
     let there : Goes now (gate ∷ more) (plain_device row ∷ map plain_device later) out gates rows =
     subst (λ (l : List DeviceRow). Goes now (gate ∷ more) l out gates rows) (front plain_device rest row c.in-len1-up-rest.len_at_least c.row-item.is) here in
-    let class : IsPlaceOf new row.class gate c.in_ok-place.place = subst (λ (l : List ℕ). IsPlaceOf new l gate c.in_ok-place.place) c.bytes.ensures.same c.in_ok-place.ensures.place in
+    let class : IsPlaceOf new (class_of (plain_device row)) gate c.in_ok-place.place = subst (λ (l : Class). IsPlaceOf new l gate c.in_ok-place.place) c.class_of.ensures c.in_ok-place.ensures.place in
     let next = goes_good now new gate more (plain_device row) (map plain_device later) c.in_ok-place.place out gates rows (sym c.is_good.ensures ∙ c.if-is_good.true) c.in_ok-place.ensures.added class there in
     record {
       added = added_twice _ now new c.gates.invariant.added c.in_ok-place.ensures.added;

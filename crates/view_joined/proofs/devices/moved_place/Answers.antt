@@ -5,7 +5,7 @@ use Rattle.std.proofs.lemmas.Result.{err_from_is_err_and}
 use Rattle.std.specs.List.{All}
 use Rattle.geo_base.specs.declared.shapes.Point.{Point}
 use Rattle.geo_base.specs.declared.shapes.Rect.{Rect}
-use Rattle.view_drawing.specs.Devices.{Area, IsListedRegion, area_of, areas_of, seen_from}
+use Rattle.view_drawing.specs.Devices.{Area, IsListedRegion, area_of, areas_of, class_in, seen_from}
 use Rattle.view_drawing.proofs.Placing.{still_listed}
 use Rattle.view_drawing.specs.Far.{IsFarArea}
 use Rattle.view_joined.proofs.Small.{all_at}
@@ -24,11 +24,11 @@ returns-clause-place c =
     let listed : slice_get (areas_of regions) k ≡ Some (area_of old) = map_to area_of regions k old at in
     let new = areas_of c.add_area.new.found.regions.items in
     let moved = map (seen_from c.moved_corner-at.result) (moved_rects c.args.motion.now c.args.place.at old.rects.items) in
-    let one : IsListedRegion new c.in_ok-region.region old.class.items moved = subst (λ (z : List Rect). IsListedRegion new c.in_ok-region.region old.class.items z) c.in_ok-rects.ensures.rects
-    (subst (λ (z : List ℕ). IsListedRegion new c.in_ok-region.region z c.in_ok-rects.rects.items) c.in_ok-class.ensures c.in_ok-region.ensures.listed) in
+    let one : IsListedRegion new c.in_ok-region.region (class_in old) moved = subst (λ (z : List Rect). IsListedRegion new c.in_ok-region.region (class_in old) z) c.in_ok-rects.ensures.rects
+    (subst (λ (z : List ℕ). IsListedRegion new c.in_ok-region.region (record { kind = old.kind; name = z }) c.in_ok-rects.rects.items) c.in_ok-class.ensures c.in_ok-region.ensures.listed) in
     record {
       area = area_of old;
-      of = still_listed (areas_of regions) new k old.class.items old.rects.items c.in_ok-region.ensures.added listed;
+      of = still_listed (areas_of regions) new k (class_in old) old.rects.items c.in_ok-region.ensures.added listed;
       at = c.moved_corner-at.ensures;
       region = one;
     }

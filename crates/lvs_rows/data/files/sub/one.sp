@@ -1,0 +1,4 @@
+.include two.sp
+.subckt one a b
+X1 a b two
+.ends
