@@ -1,5 +1,4 @@
 pub mod Times
-pub mod Parts
 pub mod Reaching
 pub mod Visiting
 pub mod Collecting

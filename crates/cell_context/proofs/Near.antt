@@ -8,7 +8,7 @@ use Rattle.std.proofs.lemmas.List.{get_or_default, map_more, take_all}
 use Rattle.std.proofs.lemmas.Option.{slice_get_within, get_or_from_slice_get}
 use Rattle.geo_base.specs.Near.{IsWithin}
 use Rattle.geo_base.specs.Motions.{moved_square}
-use Rattle.geo_base.specs.Rects.{has, moved_rect}
+use Rattle.geo_base.specs.Rects.{has, moved_rect, grown}
 use Rattle.geo_base.specs.declared.shapes.Rect.{Rect}
 use Rattle.geo_base.specs.declared.shapes.Square.{Square}
 use Rattle.geo_base.proofs.Spans.{moved_rect-has}
@@ -20,7 +20,6 @@ use Rattle.cell_graph.specs.declared.arrays.Interval.{Interval}
 use Rattle.cell_graph.specs.declared.arrays.ElementOrigins.{ElementOrigins}
 use Rattle.cell_graph.specs.declared.cells.Place.{Place}
 use Rattle.cell_graph.specs.Arrays.{IsReach, AreOrigins, SomeOrigin, origin}
-use Rattle.cell_graph.specs.Grown.{grown}
 use Rattle.cell_graph.specs.Linked.{Linked, IsSound, IsStep, HullIsSound, HullHas, hull_of, cell_at, places_at, motion_at}
 use Rattle.cell_graph.specs.Spans.{IsSpan, IsPlaceIn, ArePlacesIn}
 use Rattle.cell_graph.proofs.Bridge.{reference_at, hull_sound, inside_has}

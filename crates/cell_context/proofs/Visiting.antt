@@ -5,14 +5,14 @@ use Rattle.std.proofs.lemmas.Int.{ints}
 use Rattle.std.proofs.Math.Decide.{ℕ_discrete}
 use Rattle.geo_base.specs.Near.{IsWithin, IsNear, IsNearMotion, IsNearRect}
 use Rattle.geo_base.specs.Motions.{moved_square}
-use Rattle.geo_base.specs.Rects.{has, IsRect}
+use Rattle.geo_base.specs.Rects.{has, IsRect, IsInside}
 use Rattle.geo_base.specs.Laws.{IsUndone}
 use Rattle.geo_base.specs.declared.motion.Motion.{Motion}
 use Rattle.geo_base.specs.declared.shapes.Rect.{Rect}
 use Rattle.geo_base.specs.declared.shapes.Square.{Square}
 use Rattle.flat_layout.specs.Layout.{Some_of}
 use Rattle.cell_graph.specs.declared.cells.Place.{Place}
-use Rattle.cell_graph.specs.Linked.{IsFrame, IsInside, IsRectWithin, motion_at}
+use Rattle.cell_graph.specs.Linked.{IsFrame, IsRectWithin, motion_at}
 use Rattle.cell_graph.proofs.Bridge.{has_in, in_has}
 use Rattle.cell_context.specs.Arrays.{IsNearArray, IsPart, shift_x, shift_y}
 use Rattle.cell_context.specs.Visits.{IsMet}

@@ -2,13 +2,13 @@
 use Rattle.std.specs.Prelude.{◌≡◌, ℕ, ◌<◌, ◌^◌, ℤ, pos, ◌+ℤ◌, ◌*ℤ◌, ◌<ℤ◌}
 use Rattle.std.specs.Prelude.{true, false, ◌&&◌, Option, Some, None}
 use Rattle.geo_base.specs.Near.{IsWithin}
-use Rattle.geo_base.specs.Rects.{IsRect, has}
+use Rattle.geo_base.specs.Rects.{IsRect, has, IsInside}
 use Rattle.geo_base.specs.Motions.{moved_square}
 use Rattle.geo_base.specs.declared.motion.Motion.{Motion}
 use Rattle.geo_base.specs.declared.shapes.Rect.{Rect}
 use Rattle.geo_base.specs.declared.shapes.Square.{Square}
 use Rattle.cell_graph.specs.declared.cells.Place.{Place}
-use Rattle.cell_graph.specs.Linked.{IsInside, motion_at}
+use Rattle.cell_graph.specs.Linked.{motion_at}
 use Rattle.cell_context.specs.declared.arrays.Reach.{Reach}
 
 -- the shifts of an array's elements are near

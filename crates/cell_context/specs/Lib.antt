@@ -3,3 +3,4 @@ pub mod Arrays
 pub mod Visits
 pub mod Over
 pub mod Placed
+pub mod Search

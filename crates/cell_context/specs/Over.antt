@@ -1,6 +1,6 @@
 -- What lies over a square in a cell, other than through one reference.
 use Rattle.std.specs.Prelude.{◌≡◌, ◌⊎◌, ◌↔◌, ℕ, true, Option, Some, None, List}
-use Rattle.geo_base.specs.Rects.{has, IsRect}
+use Rattle.geo_base.specs.Rects.{has, IsRect, IsInside}
 use Rattle.geo_base.specs.Motions.{moved_square}
 use Rattle.geo_base.specs.declared.layer.LayerKey.{LayerKey}
 use Rattle.geo_base.specs.declared.shapes.Rect.{Rect}
@@ -9,7 +9,7 @@ use Rattle.rect_sets.specs.Rects.{covers}
 use Rattle.flat_layout.specs.Layout.{InFlatInput, Some_of}
 use Rattle.cell_graph.specs.declared.cells.Place.{Place}
 use Rattle.cell_graph.specs.Grown.{IsInGrown}
-use Rattle.cell_graph.specs.Linked.{Linked, IsSound, IsStep, IsFrame, IsInside, hull_of, cell_at}
+use Rattle.cell_graph.specs.Linked.{Linked, IsSound, IsStep, IsFrame, hull_of, cell_at}
 use Rattle.cell_graph.specs.Linked.{own_of, plain, motion_at}
 use Rattle.cell_context.specs.declared.arrays.Visit.{Visit}
 use Rattle.cell_context.specs.Visits.{IsVisited}

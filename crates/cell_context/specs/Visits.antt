@@ -33,3 +33,8 @@ pub record IsVisited (p : Place) (row column : ℕ) (q : Square) (v : Visit) : T
 
 abbrev pub IsFound : Place → ℕ → ℕ → Square → List Visit → Type 0
 IsFound p row column q visits = Some_of (IsVisited p row column q) visits
+
+-- what was found still is
+abbrev pub HasAllOf : List Visit → List Visit → Type 0
+HasAllOf old new = (row column : ℕ) (p : Place) (q : Square) → IsFound p row column q old
+    → IsFound p row column q new

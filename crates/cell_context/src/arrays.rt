@@ -5,10 +5,10 @@ ghost use Rattle.cell_context.specs.Visits.{IsElementVisit, IsMet, IsFound};
 ghost use Rattle.std.specs.Prelude.{OnOk, IfOk, ◌≡◌, ◌<◌, ◌≤◌, ◌-◌, ◌^◌, ◌&&◌, ℕ, ℤ, pos, ◌+ℤ◌};
 ghost use Rattle.std.specs.Prelude.{◌-ℤ◌, ◌*ℤ◌, ◌≤ℤ◌, ◌<ℤ◌};
 ghost use Rattle.geo_base.specs.Near.{IsWithin, IsNearMotion};
-ghost use Rattle.geo_base.specs.Rects.{IsRect, has, moved_rect};
+ghost use Rattle.geo_base.specs.Rects.{IsRect, has, moved_rect, IsInside};
 ghost use Rattle.geo_base.specs.Motions.{moved_square};
 ghost use Rattle.geo_base.specs.declared.shapes.Square.{Square};
-ghost use Rattle.cell_graph.specs.Linked.{IsInside, IsFrame, IsRectWithin, motion_at};
+ghost use Rattle.cell_graph.specs.Linked.{IsFrame, IsRectWithin, motion_at};
 ghost use Rattle.cell_context.specs.Arrays.{IsNearArray, IsMeet, IsReach, IsNearReach, turn_of};
 ghost use Rattle.cell_context.specs.Arrays.{shift_x, shift_y, MayMeet};
 ghost use Rattle.cell_context.specs.Steps.{Includes};
@@ -22,15 +22,8 @@ use std::alloc::{AllocError, Global};
 pub fn meet(a: &Rect, b: &Rect) -> Option<Rect>
     ensures { IsMeet a.now b.now result }
 {
-    let x1 = a.x1.max(b.x1);
-    let y1 = a.y1.max(b.y1);
-    let x2 = a.x2.min(b.x2);
-    let y2 = a.y2.min(b.y2);
-    if x1 < x2 && y1 < y2 {
-        Some(Rect { x1, y1, x2, y2 })
-    } else {
-        None
-    }
+    let part = a.common(b);
+    if part.is_rect() { Some(part) } else { None }
 }
 
 // A multiple of a step.

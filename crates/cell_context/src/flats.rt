@@ -11,9 +11,9 @@ ghost use Rattle.geo_base.specs.declared.shapes.Square.{Square};
 ghost use Rattle.rect_sets.specs.Rects.{covers};
 ghost use Rattle.flat_layout.specs.Layout.{InFlatInput, Some_of};
 ghost use Rattle.cell_graph.specs.Linked.{IsRectWithin, cell_at, places_at, plain};
-ghost use Rattle.cell_context.specs.Over.{IsOver, IsVisit, AreVisited, AreVisitedAt, AreVisitedOf};
-ghost use Rattle.cell_context.specs.Over.{IsPiece, OverLaw};
-ghost use Rattle.cell_context.specs.Visits.{IsVisited};
+ghost use Rattle.cell_context.specs.Over.{AreVisited, IsOver, IsPiece, IsVisit, OverLaw};
+ghost use Rattle.cell_context.specs.Search.{HasHitsAt, HasHitsOf, IsHit, IsSearch, references_of};
+ghost use Rattle.cell_context.specs.Visits.{HasAllOf};
 ghost use Rattle.tile_index.specs.Windows.{ArePositions};
 ghost use Rattle.cell_graph.specs.declared.cells.Place.{Place};
 
@@ -82,34 +82,38 @@ pub fn push_images(
     Ok(())
 }
 
+/// A search of a cell for the elements whose hulls, grown by so many squares on each side, come
+/// into a window, but for those of one reference.
+#[derive(Clone, Copy)]
+pub struct Search<'a> {
+    pub design: &'a Design,
+    pub cell: u32,
+    pub window: &'a Rect,
+    pub skip: Option<usize>,
+    pub by: u32,
+}
+
 // Adds the visits of one reference.
 fn push_visits(
     alloc: Global,
     out: &mut Vec<Visit>,
-    design: &Design,
-    cell: u32,
+    search: &Search<'_>,
     index: usize,
     place: &Place,
-    window: &Rect,
-    skip: Option<usize>,
-    by: u32,
 ) -> Result<(), AllocError>
-    requires there { slice_get (places_at (cell_at design.now cell)) index ≡ Some place.now }
-    requires kept { skip ≡ Some index → ⊥ }
-    requires window { IsRectWithin (2 ^ 39) window.now }
-    requires by { by ≤ 20001 }
-    requires each { All (IsVisit by design.now cell skip window.now) out.old.items }
-    ensures each { OnOk result (All (IsVisit by design.now cell skip window.now) out.new.items) }
-    ensures found { OnOk result (AreVisitedOf by design.now cell index place.now window.now
-        out.new.items) }
-    ensures stay { OnOk result ((row column : ℕ) (p : Place) (q : Square)
-        → Some_of (IsVisited p row column q) out.old.items
-        → Some_of (IsVisited p row column q) out.new.items) }
+    requires search { IsSearch search.now }
+    requires there { slice_get (references_of search.now) index ≡ Some place.now }
+    requires kept { search.now.skip ≡ Some index → ⊥ }
+    requires each { All (IsHit search.now) out.old.items }
+    ensures each { OnOk result (All (IsHit search.now) out.new.items) }
+    ensures found { OnOk result (HasHitsOf search.now index place.now out.new.items) }
+    ensures stay { OnOk result (HasAllOf out.old.items out.new.items) }
 {
+    let design = search.design;
     design.sound();
     if let Some(hull) = design.hull(place.cell) {
-        let wide = grown(&hull, by);
-        let more = place_visits(alloc, place, &wide, window)?;
+        let wide = grown(&hull, search.by);
+        let more = place_visits(alloc, place, &wide, search.window)?;
         out.extend_from_slice(&more)?;
     }
     Ok(())
@@ -119,30 +123,21 @@ fn push_visits(
 fn push_kept(
     alloc: Global,
     out: &mut Vec<Visit>,
-    design: &Design,
-    cell: u32,
+    search: &Search<'_>,
     index: usize,
-    window: &Rect,
-    skip: Option<usize>,
-    by: u32,
 ) -> Result<(), AllocError>
-    requires cell { cell < length design.now.cells }
-    requires there { index < length (places_at (cell_at design.now cell)) }
-    requires window { IsRectWithin (2 ^ 39) window.now }
-    requires by { by ≤ 20001 }
-    requires each { All (IsVisit by design.now cell skip window.now) out.old.items }
-    ensures each { OnOk result (All (IsVisit by design.now cell skip window.now) out.new.items) }
-    ensures found { OnOk result (AreVisitedAt by design.now cell skip window.now index
-        out.new.items) }
-    ensures stay { OnOk result ((row column : ℕ) (p : Place) (q : Square)
-        → Some_of (IsVisited p row column q) out.old.items
-        → Some_of (IsVisited p row column q) out.new.items) }
+    requires search { IsSearch search.now }
+    requires there { index < length (references_of search.now) }
+    requires each { All (IsHit search.now) out.old.items }
+    ensures each { OnOk result (All (IsHit search.now) out.new.items) }
+    ensures found { OnOk result (HasHitsAt search.now index out.new.items) }
+    ensures stay { OnOk result (HasAllOf out.old.items out.new.items) }
 {
-    if skip == Some(index) {
+    if search.skip == Some(index) {
         return Ok(());
     }
-    let place = &design.places(cell)[index];
-    push_visits(alloc, out, design, cell, index, place, window, skip, by)
+    let place = &search.design.places(search.cell)[index];
+    push_visits(alloc, out, search, index, place)
 }
 
 /// The elements of a cell's references whose hulls, grown by so many squares on each side, come
@@ -163,11 +158,18 @@ pub fn visits(
     ensures found { IfOk result (λ v. AreVisited by design.now cell skip window.now v.items) }
 {
     design.sound();
+    let search = Search {
+        design,
+        cell,
+        window,
+        skip,
+        by,
+    };
     let mut out = Vec::new(alloc);
     let wide = grown(window, by);
     let near = design.places_in(alloc, cell, wide)?;
     for i in &near {
-        push_kept(alloc, &mut out, design, cell, *i as usize, window, skip, by)?;
+        push_kept(alloc, &mut out, &search, *i as usize)?;
     }
     Ok(out)
 }

@@ -1,4 +1,4 @@
-//! What of a layout below a cell lies in a window.
+//! What of a layout below a cell lies in a window: a region query into the placed cells, in place.
 #![tactic(auto)]
 
 mod arrays;

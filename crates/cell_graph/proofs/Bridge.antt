@@ -8,7 +8,7 @@ use Rattle.std.proofs.lemmas.Option.{slice_get_within}
 use Rattle.std.proofs.lemmas.List.Elements.{All-head, All-tail}
 use Rattle.std.proofs.lemmas.Int.{ints}
 use Rattle.geo_base.specs.Motions.{moved_square}
-use Rattle.geo_base.specs.Rects.{has, moved_rect}
+use Rattle.geo_base.specs.Rects.{has, moved_rect, IsInside}
 use Rattle.geo_base.proofs.Spans.{moved_rect-has}
 use Rattle.geo_base.specs.declared.layer.LayerKey.{LayerKey}
 use Rattle.geo_base.specs.declared.motion.Motion.{Motion}
@@ -20,7 +20,7 @@ use Rattle.flat_layout.specs.Arrays.{place_at, places_of}
 use Rattle.flat_layout.specs.Layout as flat
 use Rattle.plain_netlist.specs.Lists.{IsListed, AreApart}
 use Rattle.flat_layout.specs.Layout.{Some_of, IsOwn, IsPlaced, Takes}
-use Rattle.cell_graph.specs.Linked.{Linked, IsSound, IsReference, IsInside, HoldsImage, HoldsRects, HullHas, HullIsSound, layer_keys, own_rects, own_of, cell_at, hull_of, places_at, height_at, height_of, plain, plain_cell, plain_layer, reference, motion_at, IsStep}
+use Rattle.cell_graph.specs.Linked.{Linked, IsSound, IsReference, HoldsImage, HoldsRects, HullHas, HullIsSound, layer_keys, own_rects, own_of, cell_at, hull_of, places_at, height_at, height_of, plain, plain_cell, plain_layer, reference, motion_at, IsStep}
 use Rattle.geo_base.specs.Layers.{is_same_key}
 use Rattle.cell_graph.specs.Laws.{OwnLaw, HeightLaw, HullLaw}
 use Rattle.cell_graph.specs.declared.cells.OwnLayer.{OwnLayer}

@@ -3,13 +3,13 @@ use Rattle.std.proofs.Common.{◌≡◌, ◌↔◌, ℕ, ℤ, pos, ◌+◌, ◌<
 use Rattle.std.proofs.lemmas.Int.{ints, by_lt_z}
 use Rattle.geo_base.specs.Motions.{moved_square}
 use Rattle.geo_base.specs.Near.{IsWithin}
-use Rattle.geo_base.specs.Rects.{has, IsRect}
+use Rattle.geo_base.specs.Rects.{has, IsRect, grown}
 use Rattle.geo_base.specs.declared.shapes.Rect.{Rect}
 use Rattle.geo_base.specs.declared.shapes.Square.{Square}
 use Rattle.flat_layout.specs.Plane.{AreWithin}
 use Rattle.flat_laws.proofs.Moves.{withins}
 use Rattle.cell_graph.specs.declared.cells.Place.{Place}
-use Rattle.cell_graph.specs.Grown.{grown, IsInGrown}
+use Rattle.cell_graph.specs.Grown.{IsInGrown}
 use Rattle.cell_graph.specs.Linked.{Linked, IsFrame, IsHull, IsSound, IsStep, HullHas, HullIsSound, motion_at, hull_of, cell_at}
 use Rattle.cell_graph.proofs.Bridge.{has_in, in_has, step_held, hull_sound}
 

@@ -5,7 +5,7 @@ use Rattle.std.specs.List.{All}
 use Rattle.std.proofs.lemmas.Int.{ints, clamps}
 use Rattle.std.proofs.lemmas.Option.{slice_get_within, slice_get-get_or}
 use Rattle.geo_base.specs.Motions.{moved_point}
-use Rattle.geo_base.specs.Rects.{IsRect, moved_rect}
+use Rattle.geo_base.specs.Rects.{IsRect, moved_rect, IsInside}
 use Rattle.geo_base.specs.declared.motion.Motion.{Motion}
 use Rattle.geo_base.specs.declared.shapes.Point.{Point}
 use Rattle.geo_base.specs.declared.shapes.Rect.{Rect}
@@ -20,7 +20,7 @@ use Rattle.cell_graph.specs.declared.cells.OwnLayer.{OwnLayer}
 use Rattle.cell_graph.specs.declared.cells.RawText.{RawText}
 use Rattle.cell_graph.specs.declared.cells.Place.{Place}
 use Rattle.cell_graph.specs.declared.cells.CellPart.{CellPart}
-use Rattle.cell_graph.specs.Linked.{IsPointWithin, linked_of, plain, motion_at, cell_at, places_at, height_at, height_of, IsInside, IsHull, HoldsImage, HoldsRects, IsReference, layer_keys, HullIsSound, HasJustBelow, HaveLevels, IsSoundCell, IsOrder, IsStep}
+use Rattle.cell_graph.specs.Linked.{IsPointWithin, linked_of, plain, motion_at, cell_at, places_at, height_at, height_of, IsHull, HoldsImage, HoldsRects, IsReference, layer_keys, HullIsSound, HasJustBelow, HaveLevels, IsSoundCell, IsOrder, IsStep}
 use Rattle.cell_graph.proofs.Bridge.{step_of, placed_of}
 use Rattle.cell_graph.specs.declared.bounds.Bounds.{Bounds}
 use Rattle.cell_graph.specs.declared.drafts.CellDraft.{CellDraft}

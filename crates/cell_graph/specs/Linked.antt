@@ -4,7 +4,7 @@ use Rattle.std.specs.Prelude.{Some, None, map, length, slice_get, slice_index, t
 use Rattle.std.specs.Prelude.{if◌then◌else◌}
 use Rattle.std.specs.List.{All}
 use Rattle.geo_base.specs.Near.{IsWithin}
-use Rattle.geo_base.specs.Rects.{IsRect, has, moved_rect}
+use Rattle.geo_base.specs.Rects.{IsRect, has, moved_rect, IsInside}
 use Rattle.geo_base.specs.Layers.{is_same_key}
 use Rattle.geo_base.specs.declared.layer.LayerKey.{LayerKey}
 use Rattle.geo_base.specs.declared.motion.Motion.{Motion}
@@ -65,13 +65,6 @@ plain d = record { cells = map plain_cell d.cells; top = d.top }
 -- how an element of an array is moved
 abbrev pub motion_at : Place → ℕ → ℕ → Motion
 motion_at p row column = (place_at (reference p) row column).motion
-
--- the rectangle lies within another
-pub record IsInside (a b : Rect) : Type 0 where
-  pub x1 : b.x1 ≤ℤ a.x1
-  pub y1 : b.y1 ≤ℤ a.y1
-  pub x2 : a.x2 ≤ℤ b.x2
-  pub y2 : a.y2 ≤ℤ b.y2
 
 -- both coordinates lie so far from 0 at most
 pub record IsPointWithin (reach : ℕ) (p : Point) : Type 0 where

@@ -2,14 +2,13 @@
 use Rattle.std.specs.Prelude.{◌≡◌, ◌⊎◌, ◌↔◌, ℕ, ◌<◌, ◌+ℤ◌, List, Option, Some, None, slice_get}
 use Rattle.std.specs.Prelude.{Contains}
 use Rattle.std.specs.List.Sorted.{IsStrictlyIncreasing}
-use Rattle.geo_base.specs.Rects.{moved_rect}
+use Rattle.geo_base.specs.Rects.{moved_rect, ShareSquare, IsInside}
 use Rattle.geo_base.specs.declared.shapes.Rect.{Rect}
-use Rattle.tile_index.specs.Windows.{ShareSquare}
 use Rattle.cell_graph.specs.declared.arrays.ElementOrigins.{ElementOrigins}
 use Rattle.cell_graph.specs.declared.cells.Place.{Place}
 use Rattle.cell_graph.specs.declared.cells.CellPart.{CellPart}
 use Rattle.cell_graph.specs.Arrays.{HasFarOrigin}
-use Rattle.cell_graph.specs.Linked.{Linked, IsInside, motion_at, hull_of, cell_at, places_at}
+use Rattle.cell_graph.specs.Linked.{Linked, motion_at, hull_of, cell_at, places_at}
 
 -- some element's image of the hull has P
 abbrev pub SomeImage : Place → Rect → (Rect → Type 0) → Type 0

@@ -1,5 +1,5 @@
-//! Cells that refer to one another by name, linked: own sets, texts, references with their arrays,
-//! hulls; or the first fault in them.
+//! Cells that refer to one another by name, linked: own sets, texts, references (instances, single
+//! or as arrays), hulls, which are bounding boxes; or the first fault in them.
 #![tactic(auto)]
 
 mod arrays;

@@ -112,31 +112,38 @@ fn width(rules: &RuleSet, device: u32, twice_w: u128, unit_pm: u32) -> Result<Fe
     Ok(width)
 }
 
-/// The device of a good gate: its kind, its rule's class, its sizes, and its terminals on these
-/// nets. Constant time beside the class.
+/// A good gate: its kind, twice its width and its length in sides of unit squares, or of a diode its
+/// squares and twice its boundary edges, and its terminals' nets in the order of a `DeviceRow`'s.
+#[derive(Clone, Copy)]
+pub struct GateRow {
+    pub kind: DeviceKind,
+    pub twice_w: u128,
+    pub twice_l: u128,
+    pub nets: [u32; 4],
+}
+
+/// The device of a good gate for the device rule of this number: its kind, its rule's class, its
+/// sizes, and its terminals' nets. Constant time beside the class.
 pub fn device_row(
     alloc: Global,
     rules: &RuleSet,
     device: u32,
     unit_pm: u32,
-    kind: DeviceKind,
-    twice_w: u128,
-    twice_l: u128,
-    nets: [u32; 4],
+    gate: &GateRow,
 ) -> Result<DeviceRow, AllocError>
     requires { device < length (device_rules (rules_seen rules.now)) }
     ensures { IfOk result (λ row. (u : Rule)
         → slice_get (device_rules (rules_seen rules.now)) device ≡ Some u
-        → plain_device row ≡ device_by u (sizes_of u unit_pm twice_w twice_l)
-        (gate_row kind twice_w twice_l nets)) }
+        → plain_device row ≡ device_by u (sizes_of u unit_pm gate.now.twice_w gate.now.twice_l)
+        (gate_row gate.now.kind gate.now.twice_w gate.now.twice_l gate.now.nets)) }
 {
     let class = class_of(alloc, rules, device)?;
-    let length = size(twice_l, unit_pm)?;
-    let width = width(rules, device, twice_w, unit_pm)?;
+    let length = size(gate.twice_l, unit_pm)?;
+    let width = width(rules, device, gate.twice_w, unit_pm)?;
     Ok(DeviceRow {
-        kind,
+        kind: gate.kind,
         class,
         sizes: [length, width],
-        nets,
+        nets: gate.nets,
     })
 }

@@ -1,4 +1,4 @@
-//! The circuit of each cell.
+//! The circuit of each cell: its devices and the instances of circuits below, on its nets.
 #![tactic(auto)]
 
 mod below;
@@ -21,7 +21,7 @@ pub use below::Below;
 pub use calls::call_rows;
 pub use cells::placed_cells;
 pub use circuits::{CircuitCells, find_circuits, number_of};
-pub use devices::{device_row, number_terminals, size};
+pub use devices::{GateRow, device_row, number_terminals, size};
 pub use drawn::{drawn_names, drawn_nets, pin_nets};
 pub use gated::gated_cells;
 pub use made::{CellParts, cell_circuit};

@@ -29,10 +29,12 @@ use net_names::Name;
 use rule_text::RuleSet;
 use std::alloc::{AllocError, Global};
 
-/// What is known of a cell: its nets, its gates, its pins, the device rules, and the database unit
-/// in picometres.
+/// What is known of a cell: its number, the cells of its placements, its nets, its gates, its pins,
+/// the device rules, and the database unit in picometres.
 #[derive(Drop)]
 pub struct CellParts<'a> {
+    pub cell: u32,
+    pub cells: &'a [u32],
     pub nets: &'a CellNets,
     pub gates: &'a [Gate],
     pub pins: &'a CellPins,
@@ -40,39 +42,38 @@ pub struct CellParts<'a> {
     pub unit_pm: u32,
 }
 
-/// The circuit of a cell under a name. `cells` are the cells of its placements. 2^32 nets are
-/// refused. Linear in the gates, in the placements and their cells' nets, and in the bytes of
-/// names.
+/// The circuit of a cell under a name. 2^32 nets are refused. Linear in the gates, in the placements
+/// and their cells' nets, and in the bytes of names.
 pub fn cell_circuit<P: Placed>(
     alloc: Global,
     placed: &P,
-    cell: u32,
-    cells: &[u32],
     parts: &CellParts,
     drawn: &[bool],
     name: Name,
 ) -> Result<Circuit, AllocError>
-    requires nets { P.nets placed.now cell ≡ plain_nets parts.now.nets.now }
+    requires nets { P.nets placed.now parts.now.cell ≡ plain_nets parts.now.nets.now }
     requires right { AreNetsOver (P.design placed.now) (P.wiring placed.now) (P.nets placed.now)
-        cell (plain_nets parts.now.nets.now) }
-    requires cells { cells.now ≡ placed_cells (P.design placed.now) cell }
-    requires readable { (k : ℕ) (p : Place) → IsPlaced (P.design placed.now) cell k p
+        parts.now.cell (plain_nets parts.now.nets.now) }
+    requires cells { parts.now.cells.now ≡ placed_cells (P.design placed.now) parts.now.cell }
+    requires readable { (k : ℕ) (p : Place) → IsPlaced (P.design placed.now) parts.now.cell k p
         → P.may_read placed.now p.cell }
-    requires terminals { (x : ℕ) → HasGate (λ c. map plain_gate parts.now.gates.now) cell x
+    requires terminals { (x : ℕ)
+        → HasGate (λ c. map plain_gate parts.now.gates.now) parts.now.cell x
         → x < parts.now.nets.now.count }
     requires drawn { (own : ℕ → ℕ → List Rect)
         → AreDrawn (P.design placed.now) (tables_with own (P.nets placed.now))
-        (λ c. map plain_gate parts.now.gates.now) (P.pins placed.now) (P.drawn placed.now) cell
-        drawn.now }
-    requires pins { P.pins placed.now cell ≡ plain_pins parts.now.pins.now }
+        (λ c. map plain_gate parts.now.gates.now) (P.pins placed.now) (P.drawn placed.now)
+        parts.now.cell drawn.now }
+    requires pins { P.pins placed.now parts.now.cell ≡ plain_pins parts.now.pins.now }
     requires pin_count { length parts.now.pins.now.pin.items ≡ parts.now.nets.now.count }
     requires name_count { length parts.now.pins.now.names.items ≡ parts.now.nets.now.count }
     requires rules { (i : ℕ) (gate : Gate) → slice_get parts.now.gates.now i ≡ Some gate
         → gate.device < length (device_rules (rules_seen parts.now.rules.now)) }
     ensures name { IfOk result (λ c. c.name ≡ name) }
-    ensures made { IfOk result (λ c. IsMadeOf (P.design placed.now) (P.nets placed.now) (P.pins placed.now)
-        (P.drawn placed.now) (P.circuits placed.now) cell (map plain_gate parts.now.gates.now)
-        drawn.now (device_rules (rules_seen parts.now.rules.now)) parts.now.unit_pm (plain_circuit c)) }
+    ensures made { IfOk result (λ c. IsMadeOf (P.design placed.now) (P.nets placed.now)
+        (P.pins placed.now) (P.drawn placed.now) (P.circuits placed.now) parts.now.cell
+        (map plain_gate parts.now.gates.now) drawn.now
+        (device_rules (rules_seen parts.now.rules.now)) parts.now.unit_pm (plain_circuit c)) }
 {
     number(drawn.len())?;
     let mut numbering = Numbering::new(alloc, parts.nets.count)?;
@@ -85,7 +86,14 @@ pub fn cell_circuit<P: Placed>(
         parts.gates,
         &mut numbering,
     )?;
-    let calls = call_rows(alloc, placed, cell, cells, parts.nets, &mut numbering)?;
+    let calls = call_rows(
+        alloc,
+        placed,
+        parts.cell,
+        parts.cells,
+        parts.nets,
+        &mut numbering,
+    )?;
     let on = numbering.into_nets();
     let nets = circuit_net_names(alloc, parts.pins, drawn, &on)?;
     Ok(Circuit {
@@ -102,40 +110,41 @@ pub fn cell_circuit<P: Placed>(
 pub fn circuit_or_none<P: Placed>(
     alloc: Global,
     placed: &P,
-    cell: u32,
-    cells: &[u32],
     parts: &CellParts,
     drawn: &[bool],
     number: Option<u32>,
     names: &[Name],
 ) -> Result<Option<Circuit>, AllocError>
-    requires nets { P.nets placed.now cell ≡ plain_nets parts.now.nets.now }
+    requires nets { P.nets placed.now parts.now.cell ≡ plain_nets parts.now.nets.now }
     requires right { AreNetsOver (P.design placed.now) (P.wiring placed.now) (P.nets placed.now)
-        cell (plain_nets parts.now.nets.now) }
-    requires cells { cells.now ≡ placed_cells (P.design placed.now) cell }
-    requires readable { (k : ℕ) (p : Place) → IsPlaced (P.design placed.now) cell k p
+        parts.now.cell (plain_nets parts.now.nets.now) }
+    requires cells { parts.now.cells.now ≡ placed_cells (P.design placed.now) parts.now.cell }
+    requires readable { (k : ℕ) (p : Place) → IsPlaced (P.design placed.now) parts.now.cell k p
         → P.may_read placed.now p.cell }
-    requires terminals { (x : ℕ) → HasGate (λ c. map plain_gate parts.now.gates.now) cell x
+    requires terminals { (x : ℕ)
+        → HasGate (λ c. map plain_gate parts.now.gates.now) parts.now.cell x
         → x < parts.now.nets.now.count }
     requires drawn { (own : ℕ → ℕ → List Rect)
         → AreDrawn (P.design placed.now) (tables_with own (P.nets placed.now))
-        (λ c. map plain_gate parts.now.gates.now) (P.pins placed.now) (P.drawn placed.now) cell
-        drawn.now }
-    requires pins { P.pins placed.now cell ≡ plain_pins parts.now.pins.now }
+        (λ c. map plain_gate parts.now.gates.now) (P.pins placed.now) (P.drawn placed.now)
+        parts.now.cell drawn.now }
+    requires pins { P.pins placed.now parts.now.cell ≡ plain_pins parts.now.pins.now }
     requires pin_count { length parts.now.pins.now.pin.items ≡ parts.now.nets.now.count }
     requires name_count { length parts.now.pins.now.names.items ≡ parts.now.nets.now.count }
     requires rules { (i : ℕ) (gate : Gate) → slice_get parts.now.gates.now i ≡ Some gate
         → gate.device < length (device_rules (rules_seen parts.now.rules.now)) }
     requires names { (n : ℕ) → number ≡ Some n → n < length names.now }
-    ensures { IfOk result (λ o. IsMadeOr (P.design placed.now) (P.nets placed.now) (P.pins placed.now)
-        (P.drawn placed.now) (P.circuits placed.now) cell (map plain_gate parts.now.gates.now)
-        drawn.now (device_rules (rules_seen parts.now.rules.now)) parts.now.unit_pm names.now number (plain_or_none o)) }
+    ensures { IfOk result (λ o. IsMadeOr (P.design placed.now) (P.nets placed.now)
+        (P.pins placed.now) (P.drawn placed.now) (P.circuits placed.now) parts.now.cell
+        (map plain_gate parts.now.gates.now) drawn.now
+        (device_rules (rules_seen parts.now.rules.now)) parts.now.unit_pm names.now number
+        (plain_or_none o)) }
 {
     let n = match number {
         None => return Ok(None),
         Some(n) => n,
     };
     let name = names[n as usize].try_clone(alloc)?;
-    let circuit = cell_circuit(alloc, placed, cell, cells, parts, drawn, name)?;
+    let circuit = cell_circuit(alloc, placed, parts, drawn, name)?;
     Ok(Some(circuit))
 }

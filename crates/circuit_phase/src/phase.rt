@@ -130,18 +130,20 @@ impl Phase for CircuitPhase<'_> {
             numbers: &self.circuits.numbers,
             reads,
         };
+        let number = number_of(&self.circuits.cells, &self.circuits.numbers, cell);
+        let names = &self.circuits.names;
+        let cells = placed_cells(alloc, design, cell)?;
         let parts = CellParts {
+            cell,
+            cells: &cells,
             nets: self.nets.of(cell),
             gates: self.gates.of(cell),
             pins: self.pins.of(cell),
             rules: self.rules,
             unit_pm: self.unit_pm,
         };
-        let number = number_of(&self.circuits.cells, &self.circuits.numbers, cell);
-        let names = &self.circuits.names;
-        let cells = placed_cells(alloc, design, cell)?;
         let drawn = drawn_marks(alloc, &below, cell, &cells, parts.nets, parts.gates)?;
-        let circuit = circuit_or_none(alloc, &below, cell, &cells, &parts, &drawn, number, names)?;
+        let circuit = circuit_or_none(alloc, &below, &parts, &drawn, number, names)?;
         Ok(CellCircuit { circuit, drawn })
     }
 }

@@ -14,7 +14,7 @@ ghost use Rattle.circuit_phase.specs.Devices.{AddDevices};
 ghost use Rattle.net_marks.specs.Marks.{has_terminal, is_terminal};
 ghost use Rattle.circuit_phase.specs.Numbering.{AreKept};
 
-use crate::devices::{device_row, number_terminals};
+use crate::devices::{GateRow, device_row, number_terminals};
 use crate::numbering::Numbering;
 use deep_tables::{Gate, GateState};
 use net_model::DeviceRow;
@@ -46,16 +46,13 @@ fn push_device(
     } = gate.state
     {
         let on = number_terminals(numbering, gate.terminal_nets())?;
-        let row = device_row(
-            alloc,
-            rules,
-            gate.device,
-            unit_pm,
+        let good = GateRow {
             kind,
             twice_w,
             twice_l,
-            on,
-        )?;
+            nets: on,
+        };
+        let row = device_row(alloc, rules, gate.device, unit_pm, &good)?;
         rows.push(row)?;
     }
     Ok(())

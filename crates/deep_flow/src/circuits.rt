@@ -9,9 +9,10 @@ ghost use Rattle.deep_tables.specs.Pins.{ArePins};
 ghost use Rattle.rule_layers.specs.Meaning.{wiring_of};
 ghost use Rattle.rule_text.specs.Seen.{rules_seen};
 
+use crate::gates::Gated;
 use cell_graph::Design;
 use circuit_phase::CircuitPhase;
-use deep_tables::{Circuits, Gates, Nets, Pins};
+use deep_tables::{Circuits, Pins};
 use job_board::{Crew, Gate, run_phase};
 use rule_text::RuleSet;
 use std::alloc::{AllocError, Global};
@@ -25,19 +26,19 @@ pub fn find_circuits<R: Threads + Wait + Sync, G: Gate + Sync>(
     alloc: Global,
     design: &Design,
     rules: &RuleSet,
-    nets: &Nets,
+    gated: &Gated,
     pins: &Pins,
-    gates: &Gates,
     unit_pm: u32,
     crew: &Crew<R, G>,
 ) -> Result<Circuits, AllocError>
     requires own { HasOwn (plain design.now) (wiring_of (rules_seen rules.now)) }
-    requires nets { AreNets (plain design.now) (rules_seen rules.now) nets.now }
+    requires nets { AreNets (plain design.now) (rules_seen rules.now) gated.now.nets }
+    requires gates { AreGates (plain design.now) (rules_seen rules.now) gated.now.gates }
     requires pins { ArePins (plain design.now) (rules_seen rules.now) pins.now }
-    requires gates { AreGates (plain design.now) (rules_seen rules.now) gates.now }
     ensures { IfOk result (AreCircuits unit_pm (plain design.now) (rules_seen rules.now)) }
 {
     design.sound();
+    let (nets, gates) = (&gated.nets, &gated.gates);
     let phase = CircuitPhase::new(alloc, design, rules, nets, pins, gates, unit_pm)?;
     let results = run_phase(alloc, &phase, crew)?;
     let circuits = Circuits::new(alloc, design, results)?;

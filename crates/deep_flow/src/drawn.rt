@@ -99,9 +99,8 @@ pub fn draw<R: Threads + Wait + Sync, G: Gate + Sync>(
         ≡ told_gates (rules_seen rules.now) gated.now.gates design.now.order) }
 {
     design.sound();
-    let nets = &gated.nets;
     let gates = &gated.gates;
-    let values = own_circuits(alloc, design, rules, nets, pins, gates, unit_pm, crew)?;
+    let values = own_circuits(alloc, design, rules, gated, pins, unit_pm, crew)?;
     let cells = circuit_cells(alloc, design, gates)?;
     number(cells.len())?;
     if !have_few_nets(&values) {

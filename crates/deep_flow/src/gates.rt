@@ -8,9 +8,8 @@ ghost use Rattle.deep_tables.specs.Zones.{AreZones};
 ghost use Rattle.rule_text.specs.Seen.{rules_seen};
 
 use deep_tables::{Gates, Layers, Nets, Zones};
-use gate_phase::GatePhase;
+use gate_phase::{GatePhase, MorePhase};
 use job_board::{Crew, Gate, run_phase};
-use more_devices::MorePhase;
 use net_phase::Wired;
 use std::alloc::{AllocError, Global};
 use std::sync::Wait;

@@ -1,4 +1,4 @@
-//! The phases of a layout, one after the other.
+//! The phases of a layout, one after the other: extraction as a whole.
 #![tactic(auto)]
 
 mod bad;

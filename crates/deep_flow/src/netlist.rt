@@ -11,9 +11,10 @@ ghost use Rattle.deep_tables.specs.Pins.{ArePins};
 ghost use Rattle.rule_layers.specs.Meaning.{wiring_of};
 ghost use Rattle.rule_text.specs.Seen.{rules_seen};
 
+use crate::gates::Gated;
 use cell_graph::Design;
 use circuit_phase::CircuitPhase;
-use deep_tables::{CellCircuit, Gates, Nets, Pins};
+use deep_tables::{CellCircuit, Pins};
 use job_board::Crew;
 use job_graph::level_values;
 use net_model::{Circuit, Netlist};
@@ -29,21 +30,21 @@ pub(crate) fn own_circuits<R: Threads + Sync, G>(
     alloc: Global,
     design: &Design,
     rules: &RuleSet,
-    nets: &Nets,
+    gated: &Gated,
     pins: &Pins,
-    gates: &Gates,
     unit_pm: u32,
     crew: &Crew<R, G>,
 ) -> Result<Vec<CellCircuit>, AllocError>
     requires own { HasOwn (plain design.now) (wiring_of (rules_seen rules.now)) }
-    requires nets { AreNets (plain design.now) (rules_seen rules.now) nets.now }
+    requires nets { AreNets (plain design.now) (rules_seen rules.now) gated.now.nets }
+    requires gates { AreGates (plain design.now) (rules_seen rules.now) gated.now.gates }
     requires pins { ArePins (plain design.now) (rules_seen rules.now) pins.now }
-    requires gates { AreGates (plain design.now) (rules_seen rules.now) gates.now }
     ensures count { IfOk result (λ v. length v.items ≡ length design.now.order) }
     ensures right { IfOk result (λ v. AreJobs (upward_cell design.now) design.now
         (IsCellCircuit unit_pm (plain design.now) (rules_seen rules.now)) v.items) }
 {
     design.sound();
+    let (nets, gates) = (&gated.nets, &gated.gates);
     let phase = CircuitPhase::new(alloc, design, rules, nets, pins, gates, unit_pm)?;
     let values = level_values(crew.rt, alloc, &phase, crew.workers)?;
     Ok(values)

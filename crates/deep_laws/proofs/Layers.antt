@@ -7,7 +7,8 @@ use Rattle.flat_layout.specs.Layers.{Formula, Input, Empty, Binary, Sized, input
 use Rattle.flat_layout.specs.Layout.{Design, Place, Some_of, IsOwn, IsPlaced, IsReached, InFlatInput, Takes}
 use Rattle.flat_layout.specs.Plane.{AreWithin}
 use Rattle.flat_laws.proofs.Moves.{onto, withins}
-use Rattle.flat_laws.proofs.Names.{same_flat, near_input}
+use Rattle.flat_laws.proofs.Calm.{same_flat}
+use Rattle.flat_laws.proofs.Names.{near_input}
 use Rattle.deep_laws.specs.Layers.{CandidateLaw, BelowLaw, IsDerived, IsFromStirred, IsNearOwn, AreDecidedBelow}
 
 -- a calm flat square is kept

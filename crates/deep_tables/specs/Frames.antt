@@ -7,7 +7,8 @@ use Rattle.rect_sets.specs.Rects.{covers, IsCanonical}
 use Rattle.flat_layout.specs.Hull.{IsHullOf}
 use Rattle.flat_layout.specs.Layout.{IsDisturbed, IsReached}
 use Rattle.flat_layout.specs.Values.{IsZone}
-pub use Rattle.cell_graph.specs.Grown.{grown, IsInGrown}
+pub use Rattle.cell_graph.specs.Grown.{IsInGrown}
+pub use Rattle.geo_base.specs.Rects.{grown}
 use Rattle.cell_graph.specs.Linked.{Linked, plain, hull_of, cell_at}
 
 -- the hulls of a design are those of its reached cells

@@ -27,7 +27,7 @@ impl Model for IndexedSet {
     ghost invariant = { IsIndexed };
 }
 
-// The least rectangle round all of these.
+// The bounding box of all of these.
 fn bounds(rects: &[Rect]) -> Rect {
     let mut all = rects.first().copied().unwrap_or(Rect {
         x1: 0,
@@ -36,10 +36,7 @@ fn bounds(rects: &[Rect]) -> Rect {
         y2: 0,
     });
     for rect in rects {
-        all.x1 = all.x1.min(rect.x1);
-        all.y1 = all.y1.min(rect.y1);
-        all.x2 = all.x2.max(rect.x2);
-        all.y2 = all.y2.max(rect.y2);
+        all = all.bounding_box(rect);
     }
     all
 }

@@ -5,7 +5,7 @@ use Rattle.flat_layout.specs.Layers.{Formula, Input, Empty, Binary, Sized, input
 use Rattle.flat_layout.specs.Layout.{Place, Design, IsPlaced, Leads, Takes, IsReached, IsHeight}
 use Rattle.geo_base.specs.Motions.{moved_square}
 use Rattle.geo_base.specs.declared.shapes.Square.{Square}
-use Rattle.flat_laws.proofs.Names.{stirless_above, same_flat}
+use Rattle.flat_laws.proofs.Calm.{calm_above, same_flat}
 
 leads_on : (d : Design) (from mid to k : ℕ) (p : Place) (ks : List ℕ) → Leads d from ks mid → IsPlaced d mid k p → Leads d from (ks ++ k ∷ []) p.cell
 leads_on d from mid to k p [] h placed = (p, subst (λ (c : ℕ). IsPlaced d c k p) (sym h) placed, refl)
@@ -16,7 +16,7 @@ reached_below d cell k p r placed = record { path = r.path ++ k ∷ []; leads = 
 
 calm_flat_above : (d : Design) (cell k : ℕ) (p : Place) (name : Formula) (q : Square) → IsReached d cell → IsPlaced d cell k p → IsCalmFlat d p.cell name q → IsCalmFlat d cell name (moved_square p.motion q)
 calm_flat_above d cell k p name q reached placed h =
-    ((same_flat d name cell k p q reached placed h.1).1 h.0, stirless_above d (inputs name) (reach name) cell k p q placed h.1)
+    ((same_flat d name cell k p q reached placed h.1).1 h.0, calm_above d (inputs name) (reach name) cell k p q placed h.1)
 
 -- what a placed cell keeps, its parent keeps
 pub kept_above : (d : Design) (cell k : ℕ) (p : Place) (name : Formula) (q : Square) → IsReached d cell → IsPlaced d cell k p → IsKept d p.cell name q → IsKept d cell name (moved_square p.motion q)

@@ -6,7 +6,7 @@ use Rattle.flat_laws.specs.GateLaws.{IsReadWhole, KeptFormLaw, ReadLayersLaw}
 use Rattle.flat_layout.specs.Gates.{Rule, Geometry, geometry, gate_inputs, IsReadBy, IsStep, InGate, IsGateOrRing, InRing, IsSettled, InSide, InOneGroup, Edge, IsBorder, IsWide, IsLong, AreGroups, IsGoodGate, IsTerminalNode, IsBadGate, Sides, TwoGroups, Region, Form, Beside, Alone, form_of, gate_sheet, sheets, IsRegionNode, IsGroupNode, IsOtherNode, moved_edge, moved_sides}
 use Rattle.flat_layout.specs.Layers.{Formula, inputs, reach, InFlat}
 use Rattle.flat_layout.specs.Layout.{Place, Design, Some_of, IsPlaced, IsReached}
-use Rattle.flat_layout.specs.Parts.{AllOn, SomeOff, InEnds, IsGoodPart, IsBadPart, IsGoodArea, IsBadArea, IsGoodForm, IsBadForm}
+use Rattle.flat_layout.specs.Parts.{Edges, AllOn, SomeOff, InEnds, IsGoodPart, IsBadPart, IsGoodArea, IsBadArea, IsGoodForm, IsBadForm}
 use Rattle.flat_layout.specs.Regions.{Wiring, Node, At, Ground, moved, formula}
 use Rattle.geo_base.specs.declared.layer.LayerKey.{LayerKey}
 use Rattle.geo_base.specs.Motions.{moved_square}
@@ -19,6 +19,7 @@ use Rattle.flat_laws.proofs.Paths.{moved_square-injective}
 use Rattle.flat_laws.proofs.Names.{more_left, more_right}
 use Rattle.plain_netlist.proofs.Links.{single, along}
 use Rattle.flat_laws.proofs.Moves.{edges, onto}
+use Rattle.flat_laws.proofs.Joints.{last_in}
 use Rattle.flat_laws.proofs.Mapped.{counts_map, classes_map, chain_down}
 use Rattle.flat_laws.proofs.Kept.{close_in, close_by, same_read, gate_up, gate_down, squares, ring}
 use Rattle.flat_layout.specs.declared.cause.GateCause.{GateCause}
@@ -207,8 +208,7 @@ module _ (d : Design) (w : Wiring) (u : Rule) (cell k : ℕ) (p : Place) (s : Sq
 
   -- a group's squares lie in the ring
   in_side : (a q : Square) (via : List Square) → InSide d w u p.cell s a → IsChain (IsStep (InSide d w u p.cell s)) a via q → InSide d w u p.cell s q
-  in_side a q [] h chain = subst (λ y. InSide d w u p.cell s y) chain h
-  in_side a q (x ∷ xs) h chain = in_side x q xs chain.0.to chain.1
+  in_side = last_in Edges (InSide d w u p.cell s)
 
   end_on : (name : Formula) → IsReadBy geo name → (e : Edge) → IsWide d w u p.cell s e → ((q : Square) → InOneGroup d w u p.cell s e.outer q → InFlat d p.cell name q)
       → (q : Square) → InOneGroup d w u cell (f s) (f e.outer) q → InFlat d cell name q

@@ -3,7 +3,7 @@ use Rattle.std.proofs.Common.{◌≡◌, ◌⊎◌, inl, inr, ℕ, suc, ◌≤�
 use Rattle.geo_base.specs.declared.shapes.Square.{Square}
 use Rattle.flat_laws.specs.GateLaws.{CauseAlongLaw, NotBothLaw, OneCauseLaw}
 use Rattle.flat_layout.specs.Gates.{Rule, geometry, Edge, Sides, TwoGroups, Region, Form, Beside, Alone, form_of, gate_sheet, sheets, AreClasses, AreGroups, IsStep, InSide, InOneGroup, IsWide, IsBadGate, InGate}
-use Rattle.flat_layout.specs.Parts.{AllOn, SomeOff, InEnds, IsGoodPart, IsBadPart, IsGoodArea, IsBadArea, IsGoodForm, IsBadForm}
+use Rattle.flat_layout.specs.Parts.{Edges, AllOn, SomeOff, InEnds, IsGoodPart, IsBadPart, IsGoodArea, IsBadArea, IsGoodForm, IsBadForm}
 use Rattle.flat_layout.specs.Layout.{Design}
 use Rattle.flat_layout.specs.Layers.{InFlat}
 use Rattle.flat_layout.specs.Regions.{Wiring, formula}
@@ -13,7 +13,7 @@ use Rattle.flat_laws.proofs.Count.{fewer, counts}
 use Rattle.flat_laws.proofs.Cover.{reached_below}
 use Rattle.flat_laws.proofs.Formed.{bad, read_layers}
 use Rattle.flat_laws.proofs.Once.{settled_along}
-use Rattle.flat_laws.proofs.Squares.{edge_back}
+use Rattle.flat_laws.proofs.Joints.{adjacent_back}
 use Rattle.flat_layout.specs.declared.cause.GateCause.{GateCause}
 use Rattle.flat_layout.specs.declared.cause.GateCause.TheVariants.{Groups, OffGate, OffSd, NoBulk, NoLength}
 
@@ -50,15 +50,12 @@ module _ {A : Type 0} (P : A → Type 0) (R : A → A → Type 0) (turn : (a b :
       let e = r.long in
       omega arith
 
-side_back : (d : Design) (w : Wiring) (u : Rule) (cell : ℕ) (s a b : Square) → IsStep (InSide d w u cell s) a b → IsStep (InSide d w u cell s) b a
-side_back d w u cell s a b h = record { from = h.to; to = h.from; edge = edge_back a b h.edge }
-
 module _ (d : Design) (w : Wiring) (u : Rule) (cell : ℕ) (s : Square) where
   abbrev R : Edge → Edge → Type 0
   R = λ a b. InOneGroup d w u cell s a.outer b.outer
 
   turn : (a b : Edge) → R a b → R b a
-  turn a b h = back (IsStep (InSide d w u cell s)) (side_back d w u cell s) a.outer b.outer h
+  turn a b h = back (IsStep (InSide d w u cell s)) (adjacent_back Edges (InSide d w u cell s)) a.outer b.outer h
 
   on : (a b c : Edge) → R a b → R b c → R a c
   on a b c h k = both (IsStep (InSide d w u cell s)) a.outer b.outer c.outer h k

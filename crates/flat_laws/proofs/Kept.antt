@@ -1,22 +1,24 @@
 -- The image of a settled gate is a settled gate, with its ring.
-use Rattle.std.proofs.Common.{◌≡◌, ◌↔◌, ℕ, List, [], ◌∷◌, refl, sym, ap, subst}
+use Rattle.std.proofs.Common.{◌≡◌, ◌↔◌, ℕ, List, [], ◌∷◌, sym, ap, subst}
 use Rattle.flat_laws.specs.GateLaws.{KeptGateLaw}
 use Rattle.flat_layout.specs.Gates.{Geometry, IsReadBy, IsSoundGeometry, IsStep, InGate, IsGateOrRing, InRing, IsSettled}
-use Rattle.flat_layout.specs.Layers.{Formula, inputs, reach, InFlat, IsStirred}
+use Rattle.flat_layout.specs.Layers.{Formula, inputs, reach, InFlat, IsCalmAt}
 use Rattle.flat_layout.specs.Layout.{Place, Design, IsPlaced, IsReached}
+use Rattle.flat_layout.specs.Parts.{Edges}
 use Rattle.flat_layout.specs.Plane.{SharesEdge, IsAround}
 use Rattle.geo_base.specs.Motions.{moved_square}
 use Rattle.geo_base.specs.declared.shapes.Square.{Square}
 use Rattle.plain_netlist.specs.Chains.{IsChain, Reaches}
 use Rattle.flat_laws.proofs.Paths.{moved_square-injective}
-use Rattle.flat_laws.proofs.Names.{same_flat, stirless_above, fewer_stirred}
-use Rattle.plain_netlist.proofs.Links.{stays, single, prepend, both}
+use Rattle.flat_laws.proofs.Calm.{calm_above, calm_fewer, same_flat}
+use Rattle.plain_netlist.proofs.Links.{stays, prepend}
+use Rattle.flat_laws.proofs.Joints.{region_self, region_next}
 use Rattle.flat_laws.proofs.Moves.{edges, arounds, around_same, edge_around, onto}
 
 module _ (d : Design) (g : Geometry) (cell : ℕ) (s : Square) where
   -- a gate's next square
   pub in_next : (a x : Square) → InGate d g cell s a → IsStep (InFlat d cell g.region) a x → InGate d g cell s x
-  in_next a x h step = record { from = h.from; joined = both (IsStep (InFlat d cell g.region)) s a x h.joined (single (IsStep (InFlat d cell g.region)) a x step) }
+  in_next a x h step = region_next Edges (InFlat d cell g.region) s a x h step
 
   pub close_in : (a : Square) → InGate d g cell s a → IsGateOrRing d g cell s a
   close_in a h = record { square = a; in_part = h; around = around_same a }
@@ -39,13 +41,13 @@ module _ (d : Design) (g : Geometry) (sound : IsSoundGeometry g) (cell k : ℕ) 
 
   -- close to the gate, the flat sets that the geometry reads are the same
   pub same_read : (name : Formula) → IsReadBy g name → (q : Square) → IsGateOrRing d g p.cell s q → InFlat d cell name (f q) ↔ InFlat d p.cell name q
-  same_read name read q near = same_flat d name cell k p q reached placed (λ h. settled.calm q near (fewer_stirred d (inputs name) g.keys (reach name) g.reach p.cell q read.reach read.keys h))
+  same_read name read q near = same_flat d name cell k p q reached placed (calm_fewer d (inputs name) g.keys (reach name) g.reach p.cell q read.reach read.keys (settled.calm q near))
 
   same : (q : Square) → IsGateOrRing d g p.cell s q → InFlat d cell g.region (f q) ↔ InFlat d p.cell g.region q
   same q near = same_read g.region sound q near
 
   start : InGate d g p.cell s s
-  start = record { from = settled.is; joined = stays (IsStep Below) s s refl }
+  start = region_self Edges Below s settled.is
 
   is_above : Above (f s)
   is_above = (same s (close_in d g p.cell s s start)).1 settled.is
@@ -98,7 +100,7 @@ module _ (d : Design) (g : Geometry) (sound : IsSoundGeometry g) (cell k : ℕ) 
     calm = λ q c.
         let r = onto p.motion q in
         let near = (close r.0).0 (subst (λ y. IsGateOrRing d g cell (f s) y) (sym r.1) c) in
-        subst (λ y. IsStirred d g.keys g.reach cell y → ⊥) r.1 (stirless_above d g.keys g.reach cell k p r.0 placed (settled.calm r.0 near));
+        subst (λ y. IsCalmAt d g.keys g.reach cell y) r.1 (calm_above d g.keys g.reach cell k p r.0 placed (settled.calm r.0 near));
   }
 
 pub kept_gate : KeptGateLaw

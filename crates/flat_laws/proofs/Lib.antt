@@ -1,7 +1,10 @@
 pub mod Paths
 pub mod Squares
 pub mod Moves
+pub mod Joints
 pub mod Names
+pub mod Shut
+pub mod Calm
 pub mod Cover
 pub mod Items
 pub mod OneNet

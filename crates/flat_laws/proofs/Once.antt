@@ -1,69 +1,54 @@
 -- Each settled gate is the image of one listed gate along one path.
-use Rattle.std.proofs.Common.{◌≡◌, ◌⊎◌, inl, inr, ℕ, zero, suc, ◌<◌, ◌≤◌, List, [], ◌∷◌, refl, sym, ap, subst, arith}
+use Rattle.std.proofs.Common.{◌≡◌, ◌⊎◌, inl, inr, ℕ, zero, suc, ◌<◌, List, [], ◌∷◌, refl, sym, subst, arith}
 use Rattle.std.proofs.Math.Decide.{ℕ_discrete}
 use Rattle.flat_laws.specs.GateLaws.{OnePlaceLaw, GateLaw, TopLaw}
-use Rattle.flat_layout.specs.Gates.{Geometry, IsSoundGeometry, IsStep, InGate, IsSettled, IsGateBelow, IsListedGate, IsFound}
-use Rattle.flat_layout.specs.Layers.{reach, InFlat}
-use Rattle.flat_layout.specs.Layout.{Place, Design, IsPlaced, Takes, IsPrefix, IsDisturbed, IsReached, IsHeight}
-use Rattle.flat_layout.specs.Plane.{AreWithin}
-use Rattle.geo_base.specs.declared.layer.LayerKey.{LayerKey}
+use Rattle.flat_layout.specs.Gates.{Geometry, IsSoundGeometry, InGate, IsSettled, IsGateBelow, IsListedGate, IsFound}
+use Rattle.flat_layout.specs.Layers.{InFlat, IsLone}
+use Rattle.flat_layout.specs.Layout.{Place, Design, IsPlaced, Takes, IsReached, IsHeight}
+use Rattle.flat_layout.specs.Parts.{Edges}
 use Rattle.geo_base.specs.Motions.{moved_square}
 use Rattle.geo_base.specs.declared.shapes.Square.{Square}
-use Rattle.plain_netlist.specs.Chains.{IsChain}
-use Rattle.flat_laws.proofs.Paths.{same_place, disturbs, first_differs}
-use Rattle.flat_laws.proofs.Moves.{onto, withins, wider}
-use Rattle.flat_laws.proofs.Names.{near_input}
+use Rattle.flat_laws.proofs.Paths.{same_place}
+use Rattle.flat_laws.proofs.Calm.{calm_lone, top_calm}
+pub use Rattle.flat_laws.proofs.Shut.{calm_top, shut_laws}
 use Rattle.flat_laws.proofs.Cover.{reached_below}
-use Rattle.plain_netlist.proofs.Links.{stays, both, back}
-use Rattle.flat_laws.proofs.Squares.{edge_back}
+use Rattle.flat_laws.proofs.Joints.{region_has, region_back, region_on, region_between, region_self}
 use Rattle.flat_laws.proofs.Kept.{close_in, squares, gate_up, gate_down, still}
 
-last_in : (set : Square → Type 0) (a b : Square) (via : List Square) → set a → IsChain (IsStep set) a via b → set b
-last_in set a b [] h chain = subst (λ x. set x) chain h
-last_in set a b (x ∷ xs) h chain = last_in set x b xs chain.0.to chain.1
-
+-- a gate is a region along edges
 module _ (d : Design) (g : Geometry) (cell : ℕ) where
-  abbrev Gate : Square → Square → Type 0
-  Gate = IsStep (InFlat d cell g.region)
-
-  step_back : (a b : Square) → Gate a b → Gate b a
-  step_back a b h = record { from = h.to; to = h.from; edge = edge_back a b h.edge }
+  abbrev Flat : Square → Type 0
+  Flat = InFlat d cell g.region
 
   pub gate_flat : (s q : Square) → InGate d g cell s q → InFlat d cell g.region q
-  gate_flat s q h = last_in (InFlat d cell g.region) s q h.joined.via h.from h.joined.chain
+  gate_flat s q h = region_has Edges Flat s q h
 
   pub gate_back : (s q : Square) → InGate d g cell s q → InGate d g cell q s
-  gate_back s q h = record { from = gate_flat s q h; joined = back Gate step_back s q h.joined }
+  gate_back s q h = region_back Edges Flat s q h
 
   pub gate_on : (s q r : Square) → InGate d g cell s q → InGate d g cell q r → InGate d g cell s r
-  gate_on s q r h i = record { from = h.from; joined = both Gate s q r h.joined i.joined }
+  gate_on s q r h i = region_on Edges Flat s q r h i
 
   pub gate_between : (s q r : Square) → InGate d g cell s q → InGate d g cell s r → InGate d g cell q r
-  gate_between s q r h i = gate_on q s r (gate_back s q h) i
+  gate_between s q r h i = region_between Edges Flat s q r h i
 
   pub gate_self : (s : Square) → InFlat d cell g.region s → InGate d g cell s s
-  gate_self s h = record { from = h; joined = stays Gate s s refl }
+  gate_self s h = region_self Edges Flat s h
+
+-- others can't make a settled gate's square alone
+not_lone : (d : Design) (g : Geometry) (cell : ℕ) (s : Square) → IsSoundGeometry g → IsSettled d g cell s → IsLone d cell g.region s → ⊥
+not_lone d g cell s sound settled =
+    calm_lone d g.region g.keys g.reach cell s sound.reach sound.keys (settled.calm s (close_in d g cell s s (gate_self d g cell s settled.is)))
 
 pub one_place : OnePlaceLaw
 one_place d g cell s sound reached a b =
-    let way = gate_between d g cell s (moved_square a.place.motion a.square) (moved_square b.place.motion b.square) a.image b.image in
-    let r = gate_down d g sound cell a.number a.place a.square reached a.placed a.settled (moved_square b.place.motion b.square) way in
-    let f = near_input d a.place.cell g.region r.0 (gate_flat d g a.place.cell a.square r.0 r.2) in
-    let y = onto b.place.motion (moved_square a.place.motion f.2) in
     elim (ℕ_discrete a.number b.number) [
       | yes e ↦ e
       | no not ↦
-          let self = gate_self d g b.place.cell b.square b.settled.is in
-          let above : AreWithin (reach g.region) (moved_square a.place.motion f.2) (moved_square a.place.motion r.0) = (withins (reach g.region) a.place.motion f.2 r.0).1 f.3 in
-          let there : AreWithin (reach g.region) (moved_square b.place.motion y.0) (moved_square b.place.motion b.square) =
-          subst (λ v. AreWithin (reach g.region) v (moved_square b.place.motion b.square)) (sym y.1) (subst (λ v. AreWithin (reach g.region) (moved_square a.place.motion f.2) v) r.1 above) in
-          let near : AreWithin g.reach y.0 b.square = wider (reach g.region) g.reach y.0 b.square sound.reach ((withins (reach g.region) b.place.motion y.0 b.square).0 there) in
-          absurd (b.settled.calm b.square (close_in d g b.place.cell b.square b.square self) (record {
-            square = y.0;
-            within = near;
-            disturbed = disturbs d g.keys f.0 cell b.number b.place y.0 f.4.square (a.number ∷ f.4.path) f.4.end reached b.placed (sound.keys f.0 f.1)
-                (a.place, a.placed, f.2, f.4.takes, sym y.1) f.4.own (first_differs a.number b.number f.4.path not);
-          }))
+          let one = gate_between d g cell s (moved_square b.place.motion b.square) (moved_square a.place.motion a.square) b.image a.image in
+          let r = gate_down d g sound cell b.number b.place b.square reached b.placed b.settled (moved_square a.place.motion a.square) one in
+          let there = gate_flat d g b.place.cell b.square r.0 r.2 in
+          absurd (not_lone d g a.place.cell a.square sound a.settled (shut_laws.lone d g.region cell a.number b.number a.place b.place a.square r.0 reached a.placed b.placed not (sym r.1) there))
     ]
 
 -- the image of a settled gate along a path is settled
@@ -140,22 +125,5 @@ each_once d g height sound linked parted cell s reached settled =
     let f = exists d g sound height linked parted (suc (height cell)) cell s lt reached settled in
     (f, λ h. unique d g sound f.path h.path cell s reached f.end f.square f.place f.takes f.image f.gate h.end h.square h.place h.takes h.image h.gate)
 
-lower : (d : Design) (height : ℕ → ℕ) → IsHeight d height → (path : List ℕ) (from to : ℕ) (s q : Square) → Takes d from path to s q → height to ≤ height from
-lower d height linked [] from to s q h = let e : height from ≡ height to = ap height h.0 in omega arith
-lower d height linked (k ∷ ks) from to s q h =
-    let one = linked from k h.0 h.1 in
-    let rest = lower d height linked ks h.0.cell to s h.2 h.3 in
-    omega arith
-
-pub calm_top : (d : Design) (height : ℕ → ℕ) → IsHeight d height → (list : List LayerKey) (q : Square) → IsDisturbed d list d.top q → ⊥
-calm_top d height linked list q h = empty h.path h.takes h.apart
-  where
-    empty : (path : List ℕ) → Takes d d.top path d.top q h.place → (IsPrefix path h.other → ⊥) → ⊥
-    empty [] t apart = apart (h.other, refl)
-    empty (k ∷ ks) t apart =
-        let one = linked d.top k t.0 t.1 in
-        let rest = lower d height linked ks t.0.cell d.top q t.2 t.3 in
-        absurd (omega arith)
-
 pub top_settled : TopLaw
-top_settled d g height linked s h = record { is = h; calm = λ q c k. calm_top d height linked g.keys k.square k.disturbed }
+top_settled d g height linked s h = record { is = h; calm = λ q c. top_calm d height linked g.keys g.reach q }

@@ -1,5 +1,5 @@
 -- Outside the disturbed squares a placed cell keeps its flat squares.
-use Rattle.std.proofs.Common.{◌≡◌, ℕ, ℤ, List, [], ◌∷◌, ◌++◌, Some, refl, sym, ◌∙◌, ap, subst, arith, ◌+ℤ◌, slice_get}
+use Rattle.std.proofs.Common.{◌≡◌, ℕ, ℤ, List, [], ◌∷◌, ◌++◌, Some, refl, sym, ◌∙◌, ap, append_assoc, subst, arith, ◌+ℤ◌, slice_get}
 use Rattle.std.proofs.Math.Decide.{ℕ_discrete}
 use Rattle.std.proofs.lemmas.Int.{ints}
 use Rattle.flat_laws.specs.LayerLaws.{UndisturbedLaw}
@@ -48,6 +48,14 @@ goes d from to (k ∷ ks) s h = let rest = goes d h.0.cell to ks s h.2 in (moved
 pub joined : (d : Design) (from mid to : ℕ) (ks js : List ℕ) (s r q : Square) → Takes d from ks mid r q → Takes d mid js to s r → Takes d from (ks ++ js) to s q
 joined d from mid to [] js s r q h t = subst (λ (c : ℕ). Takes d c js to s q) (sym h.0) (subst (λ (v : Square). Takes d mid js to s v) h.1 t)
 joined d from mid to (k ∷ ks) js s r q h t = (h.0, h.1, h.2, joined d h.0.cell mid to ks js s r h.2 h.3 t, h.4)
+
+-- a path goes on through one placement
+pub extends : (d : Design) (from mid k : ℕ) (p : Place) (ks : List ℕ) (s q : Square) → Takes d from ks mid (moved_square p.motion s) q → IsPlaced d mid k p → Takes d from (ks ++ k ∷ []) p.cell s q
+extends d from mid k p ks s q t placed = joined d from mid p.cell ks (k ∷ []) s (moved_square p.motion s) q t (p, placed, s, (refl, refl), refl)
+
+-- a prefix of a longer path
+pub shorter : (ks : List ℕ) (k : ℕ) (other : List ℕ) → IsPrefix (ks ++ k ∷ []) other → IsPrefix ks other
+shorter ks k other h = ((k ∷ []) ++ h.0, sym (append_assoc ks (k ∷ []) h.0) ∙ h.1)
 
 -- a placement's number names one placement
 pub same_place : (d : Design) (cell k : ℕ) (p r : Place) → IsPlaced d cell k p → IsPlaced d cell k r → p ≡ r

@@ -1,14 +1,14 @@
 -- A gate near which there is no seed comes from below.
-use Rattle.flat_laws.proofs.Squares.{edge_back}
+use Rattle.flat_laws.proofs.Joints.{region_self, region_has, region_back, region_next}
 use Rattle.flat_laws.proofs.Terminals.{keep}
-use Rattle.plain_netlist.proofs.Links.{stays, single, prepend, both, back, along}
+use Rattle.plain_netlist.proofs.Links.{stays, single, prepend, along}
 use Rattle.std.proofs.Common.{◌≡◌, ◌↔◌, inl, inr, ℕ, ◌+◌, List, [], ◌∷◌, refl, sym, subst, Bool, true, arith}
 use Rattle.base_laws.proofs.Tests.{true_or_not}
 use Rattle.flat_laws.specs.SeedLaws.{ReachLaw, SeedLaw, ThroughLaw, CalmThroughLaw, TestLaw, BelowLaw, OwnSeedLaw, KeptPartLaw, ClosedLaw, PartedLaw}
 use Rattle.flat_layout.specs.Gates.{Geometry, IsStep, InGate, IsGateOrRing, IsSettled, IsSoundGeometry, IsGateBelow}
-use Rattle.flat_layout.specs.Layers.{inputs, reach as reach_from, InFlat, Formula, Input, Empty, Binary, Sized, IsKept, IsStirred}
+use Rattle.flat_layout.specs.Layers.{inputs, reach as reach_from, InFlat, Formula, Input, Empty, Binary, Sized, IsKept, IsCalmAt}
 use Rattle.flat_layout.specs.Layout.{Place, Design, Some_of, IsOwn, IsPlaced, Takes, InFlatInput, IsReached}
-use Rattle.flat_layout.specs.Parts.{InPart}
+use Rattle.flat_layout.specs.Parts.{InPart, Edges}
 use Rattle.flat_layout.specs.Plane.{AreWithin, IsAround, SharesEdge}
 use Rattle.flat_layout.specs.Seeds.{IsInReach, IsNearSeed, IsFreeThrough, IsCalmPart, IsClosed}
 use Rattle.geo_base.specs.declared.layer.LayerKey.{LayerKey}
@@ -17,7 +17,8 @@ use Rattle.geo_base.specs.declared.shapes.Square.{Square}
 use Rattle.plain_netlist.specs.Chains.{IsChain, Reaches}
 use Rattle.flat_laws.proofs.Kept.{in_next, close_in, close, gate_up, gate_down}
 use Rattle.flat_laws.proofs.Moves.{edges, arounds, edge_around, farther, onto, wider, within_back, withins}
-use Rattle.flat_laws.proofs.Names.{same_flat, fewer_stirred, near_input}
+use Rattle.flat_laws.proofs.Names.{near_input}
+use Rattle.flat_laws.proofs.Calm.{calm_fewer, calm_still, same_flat}
 use Rattle.flat_laws.proofs.Once.{gate_flat, gate_on, gate_between, gate_self}
 use Rattle.flat_laws.proofs.Paths.{disturbs}
 
@@ -36,17 +37,17 @@ module _ (d : Design) (geo : Geometry) (small : IsSoundGeometry geo) (cell k : �
   abbrev D : List LayerKey
   D = geo.keys
 
-  -- where nothing is disturbed within reach the gate layer is the same
-  same : (q : Square) → (IsStirred d D geo.reach p.cell q → ⊥) → InFlat d cell geo.region (f q) ↔ InFlat d p.cell geo.region q
-  same q calm = same_flat d geo.region cell k p q reached placed (λ h. calm (fewer_stirred d (inputs geo.region) D (reach_from geo.region) geo.reach p.cell q small.reach small.keys h))
+  -- where all is shut within reach the gate layer is the same
+  same : (q : Square) → IsCalmAt d D geo.reach p.cell q → InFlat d cell geo.region (f q) ↔ InFlat d p.cell geo.region q
+  same q calm = same_flat d geo.region cell k p q reached placed (calm_fewer d (inputs geo.region) D (reach_from geo.region) geo.reach p.cell q small.reach small.keys calm)
 
   module _ (r : Square) (is : InFlat d p.cell geo.region r) (start : InFlat d cell geo.region (f r))
-      (free : (a q : Square) → InFlat d p.cell geo.region a → InGate d geo cell (f r) (f a) → IsAround a q → IsStirred d D geo.reach p.cell q → ⊥) where
+      (free : (a q : Square) → InFlat d p.cell geo.region a → InGate d geo cell (f r) (f a) → IsAround a q → IsCalmAt d D geo.reach p.cell q) where
     -- the placed cell's gate, square by square, lies in the gate here
     goes : (a q : Square) (via : List Square) → InFlat d p.cell geo.region a → InGate d geo cell (f r) (f a) → IsChain (IsStep (InFlat d p.cell geo.region)) a via q → InGate d geo cell (f r) (f q)
     goes a q [] h g chain = subst (λ (v : Square). InGate d geo cell (f r) (f v)) chain g
     goes a q (x ∷ via) h g chain =
-        let calm : IsStirred d D geo.reach p.cell x → ⊥ = free a x h g (edge_around a x chain.0.edge) in
+        let calm : IsCalmAt d D geo.reach p.cell x = free a x h g (edge_around a x chain.0.edge) in
         let here : InFlat d cell geo.region (f x) = (same x calm).1 chain.0.to in
         let step : IsStep (InFlat d cell geo.region) (f a) (f x) = record { from = gate_flat d geo cell (f r) (f a) g; to = here; edge = (edges p.motion a x).1 chain.0.edge } in
         goes x q via chain.0.to (in_next d geo cell (f r) (f a) (f x) g step) chain.1
@@ -63,22 +64,22 @@ module _ (d : Design) (geo : Geometry) (small : IsSoundGeometry geo) (cell k : �
 
 module _ (d : Design) (geo : Geometry) (small : IsSoundGeometry geo) (cell : ℕ) (s : Square) (reached : IsReached d cell) (gate : InFlat d cell geo.region s)
     (none : (q : Square) → IsGateOrRing d geo cell s q → IsNearSeed d geo cell q → ⊥) where
-  -- near a shape of a placed cell nothing is stirred that comes close to the gate
-  from_shape : (k : ℕ) (p : Place) (q : Square) → IsPlaced d cell k p → IsInReach d geo.keys (geo.reach + 1) p.cell q → IsGateOrRing d geo cell s (moved_square p.motion q) → IsStirred d geo.keys geo.reach p.cell q → ⊥
-  from_shape k p q placed near close h =
-      none (moved_square p.motion q) close (record {
-        square = moved_square p.motion h.square;
-        within = (withins geo.reach p.motion h.square q).1 h.within;
+  -- near a shape of a placed cell what comes close to the gate is calm
+  from_shape : (k : ℕ) (p : Place) (q : Square) → IsPlaced d cell k p → IsInReach d geo.keys (geo.reach + 1) p.cell q → IsGateOrRing d geo cell s (moved_square p.motion q) → IsCalmAt d geo.keys geo.reach p.cell q
+  from_shape k p q placed near close =
+      calm_still d geo.keys geo.reach p.cell q (λ z within h. none (moved_square p.motion q) close (record {
+        square = moved_square p.motion z;
+        within = (withins geo.reach p.motion z q).1 within;
         seed = inr (record {
           number = k;
           place = p;
-          square = h.square;
+          square = z;
           placed = placed;
-          reach = record { square = near.square; key = near.key; listed = near.listed; flat = near.flat; within = farther (geo.reach + 1) geo.reach near.square q h.square near.within (within_back geo.reach h.square q h.within) };
-          disturbed = h.disturbed;
+          reach = record { square = near.square; key = near.key; listed = near.listed; flat = near.flat; within = farther (geo.reach + 1) geo.reach near.square q z near.within (within_back geo.reach z q within) };
+          disturbed = h;
           image = refl;
         });
-      })
+      }))
 
   self_close : IsGateOrRing d geo cell s s
   self_close = close_in d geo cell s s (gate_self d geo cell s gate)
@@ -196,7 +197,7 @@ module _ (d : Design) (geo : Geometry) (small : IsSoundGeometry geo) (cell : ℕ
   abbrev F : Square → Type 0
   F = InFlat d cell geo.region
 
-  keep_calm : (q : Square) → F q → (IsStirred d geo.keys geo.reach cell q → ⊥) → K q
+  keep_calm : (q : Square) → F q → IsCalmAt d geo.keys geo.reach cell q → K q
   keep_calm q h calm = keep d geo cell geo.region q small calm h
 
   part_in_gate : (q : Square) → InPart K s q → InGate d geo cell s q
@@ -206,28 +207,24 @@ module _ (d : Design) (geo : Geometry) (small : IsSoundGeometry geo) (cell : ℕ
   }
 
   start : InPart K s s
-  start = record { from = is; joined = stays (IsStep K) s s refl }
-
-  kept_last : (a b : Square) (via : List Square) → K a → IsChain (IsStep K) a via b → K b
-  kept_last a b [] h chain = subst (λ (v : Square). K v) chain h
-  kept_last a b (x ∷ via) h chain = kept_last x b via chain.0.to chain.1
+  start = region_self Edges K s is
 
   part_next : (a b : Square) → InPart K s a → SharesEdge a b → K b → InPart K s b
-  part_next a b h edge k = record { from = is; joined = both (IsStep K) s a b h.joined (single (IsStep K) a b (record { from = kept_last s a h.joined.via is h.joined.chain; to = k; edge = edge })) }
+  part_next a b h edge k = region_next Edges K s a b h (record { from = region_has Edges K s a h; to = k; edge = edge })
 
   -- along a chain of flat gate squares, where what is near is calm
-  goes_kept : ((a q : Square) → InPart K s a → IsAround a q → IsStirred d geo.keys geo.reach cell q → ⊥) → (a q : Square) (via : List Square) → InPart K s a → IsChain (IsStep F) a via q → InPart K s q
+  goes_kept : ((a q : Square) → InPart K s a → IsAround a q → IsCalmAt d geo.keys geo.reach cell q) → (a q : Square) (via : List Square) → InPart K s a → IsChain (IsStep F) a via q → InPart K s q
   goes_kept free a q [] h chain = subst (λ (v : Square). InPart K s v) chain h
   goes_kept free a q (x ∷ via) h chain =
       goes_kept free x q via (part_next a x h chain.0.edge (keep_calm x chain.0.to (free a x h (edge_around a x chain.0.edge)))) chain.1
 
-  gate_in_part : ((a q : Square) → InPart K s a → IsAround a q → IsStirred d geo.keys geo.reach cell q → ⊥) → (q : Square) → InGate d geo cell s q → InPart K s q
+  gate_in_part : ((a q : Square) → InPart K s a → IsAround a q → IsCalmAt d geo.keys geo.reach cell q) → (q : Square) → InGate d geo cell s q → InPart K s q
   gate_in_part free q h = goes_kept free s q h.joined.via start h.joined.chain
 
-  calm_free : IsCalmPart d geo cell s → (a q : Square) → InPart K s a → IsAround a q → IsStirred d geo.keys geo.reach cell q → ⊥
+  calm_free : IsCalmPart d geo cell s → (a q : Square) → InPart K s a → IsAround a q → IsCalmAt d geo.keys geo.reach cell q
   calm_free h a q k around = h.calm q (record { square = a; in_part = k; around = around })
 
-  settled_free : IsSettled d geo cell s → (a q : Square) → InPart K s a → IsAround a q → IsStirred d geo.keys geo.reach cell q → ⊥
+  settled_free : IsSettled d geo cell s → (a q : Square) → InPart K s a → IsAround a q → IsCalmAt d geo.keys geo.reach cell q
   settled_free h a q k around = h.calm q (record { square = a; in_part = part_in_gate a k; around = around })
 
   to_settled : IsCalmPart d geo cell s → IsSettled d geo cell s
@@ -277,12 +274,9 @@ unfound d geo small cell found reached h seeds s settled not =
     let self = close_in d geo cell s s (gate_self d geo cell s settled.is) in
     let is = keep d geo cell geo.region s small (settled.calm s self) settled.is in
     let part : InPart (IsKept d cell geo.region) s c.square = (same_part d geo small cell s is settled c.square).1 c.in_part in
-    let near : found c.square ≡ true = seeds c.square q (kept_last d geo small cell s is s c.square part.joined.via is part.joined.chain) c.around g in
-    let back_way = back (IsStep (IsKept d cell geo.region)) (turn_step (IsKept d cell geo.region)) s c.square part.joined in
-    not (ends_found d geo cell found h c.square s back_way.via near back_way.chain))
-  where
-    turn_step : (S : Square → Type 0) (a b : Square) → IsStep S a b → IsStep S b a
-    turn_step S a b k = record { from = k.to; to = k.from; edge = edge_back a b k.edge }
+    let near : found c.square ≡ true = seeds c.square q (region_has Edges (IsKept d cell geo.region) s c.square part) c.around g in
+    let way = (region_back Edges (IsKept d cell geo.region) s c.square part).joined in
+    not (ends_found d geo cell found h c.square s way.via near way.chain))
 
 pub parted : PartedLaw
 parted d geo cell found small reached h seeds judged s settled = elim (true_or_not (found s)) [

@@ -3,8 +3,8 @@ use Rattle.std.proofs.Common.{◌≡◌, inl, inr, ℕ, zero, suc, ◌<◌, List
 use Rattle.flat_laws.specs.GateLaws.{GroundNodeLaw, IsReadWhole, TerminalNodeLaw}
 use Rattle.flat_laws.specs.LayerLaws.{TopKeptLaw}
 use Rattle.flat_layout.specs.Gates.{Rule, Geometry, geometry, ground, IsReadBy, IsStep, InGate, InSide, InOneGroup, Edge, IsWide, IsSettled, Sides, TwoGroups, Region, Form, Beside, Alone, form_of, gate_sheet, sheets, IsRegionNode, IsGroupNode, IsGateNode, IsOtherNode, IsTerminalNode}
-use Rattle.flat_layout.specs.Parts.{AllOn, IsGoodForm}
-use Rattle.flat_layout.specs.Layers.{Formula, Input, Empty, Binary, Sized, inputs, reach, InFlat, IsKept, IsStirred}
+use Rattle.flat_layout.specs.Parts.{Edges, AllOn, IsGoodForm}
+use Rattle.flat_layout.specs.Layers.{Formula, Input, Empty, Binary, Sized, inputs, reach, InFlat, IsKept, IsCalmAt}
 use Rattle.flat_layout.specs.Layout.{Design}
 use Rattle.flat_layout.specs.Regions.{Wiring, Node, At, Ground, IsNode, IsLink, InOneRegion, formula, ground_of, kept}
 use Rattle.geo_base.specs.declared.shapes.Square.{Square}
@@ -12,25 +12,25 @@ use Rattle.plain_netlist.specs.Chains.{IsChain, Reaches}
 use Rattle.plain_netlist.specs.declared.kinds.DeviceKind.{DeviceKind}
 use Rattle.plain_netlist.specs.declared.kinds.DeviceKind.TheVariants.{Mos4, ResistorWithBulk, Diode}
 use Rattle.plain_netlist.specs.Devices.{Terminal, First, Second, Other}
-use Rattle.flat_laws.proofs.Names.{fewer_stirred}
+use Rattle.flat_laws.proofs.Calm.{calm_fewer, top_calm}
 use Rattle.plain_netlist.proofs.Links.{stays, single, both, back, along}
-use Rattle.flat_laws.proofs.Squares.{edge_back}
+use Rattle.flat_laws.proofs.Joints.{adjacent_back, last_in}
 use Rattle.flat_laws.proofs.Formed.{read_layers}
 use Rattle.flat_laws.proofs.Kept.{close_in, close_by, in_next}
-use Rattle.flat_laws.proofs.Once.{gate_between, calm_top}
+use Rattle.flat_laws.proofs.Once.{gate_between}
 
--- a flat square near which nothing is disturbed is kept
-pub keep : (d : Design) (g : Geometry) (cell : ℕ) (name : Formula) (q : Square) → IsReadBy g name → (IsStirred d g.keys g.reach cell q → ⊥) → InFlat d cell name q → IsKept d cell name q
+-- a flat square near which all is shut is kept
+pub keep : (d : Design) (g : Geometry) (cell : ℕ) (name : Formula) (q : Square) → IsReadBy g name → IsCalmAt d g.keys g.reach cell q → InFlat d cell name q → IsKept d cell name q
 keep d g cell (Input key) q read calm h = h
 keep d g cell Empty q read calm h = h
-keep d g cell (Binary op a b) q read calm h = (h, λ k. calm (fewer_stirred d (inputs (Binary op a b)) g.keys (reach (Binary op a b)) g.reach cell q read.reach read.keys k))
-keep d g cell (Sized by a) q read calm h = (h, λ k. calm (fewer_stirred d (inputs (Sized by a)) g.keys (reach (Sized by a)) g.reach cell q read.reach read.keys k))
+keep d g cell (Binary op a b) q read calm h = (h, calm_fewer d (inputs (Binary op a b)) g.keys (reach (Binary op a b)) g.reach cell q read.reach read.keys calm)
+keep d g cell (Sized by a) q read calm h = (h, calm_fewer d (inputs (Sized by a)) g.keys (reach (Sized by a)) g.reach cell q read.reach read.keys calm)
 
 pub top_kept : TopKeptLaw
 top_kept d height (Input key) q linked = ((λ h. h), (λ h. h))
 top_kept d height Empty q linked = ((λ h. h), (λ h. h))
-top_kept d height (Binary op a b) q linked = ((λ h. h.0), (λ h. (h, λ g. calm_top d height linked (inputs (Binary op a b)) g.square g.disturbed)))
-top_kept d height (Sized by a) q linked = ((λ h. h.0), (λ h. (h, λ g. calm_top d height linked (inputs (Sized by a)) g.square g.disturbed)))
+top_kept d height (Binary op a b) q linked = ((λ h. h.0), (λ h. (h, top_calm d height linked (inputs (Binary op a b)) (reach (Binary op a b)) q)))
+top_kept d height (Sized by a) q linked = ((λ h. h.0), (λ h. (h, top_calm d height linked (inputs (Sized by a)) (reach (Sized by a)) q)))
 
 module _ (d : Design) (w : Wiring) (u : Rule) (cell : ℕ) (s : Square) (settled : IsSettled d (geometry w u) cell s) where
   abbrev geo : Geometry
@@ -66,17 +66,10 @@ module _ (d : Design) (w : Wiring) (u : Rule) (cell : ℕ) (s : Square) (settled
   abbrev InEnd : Edge → Square → Type 0
   InEnd x q = InOneGroup d w u cell s x.outer q
 
-  side_step_back : (a b : Square) → IsStep (InSide d w u cell s) a b → IsStep (InSide d w u cell s) b a
-  side_step_back a b h = record { from = h.to; to = h.from; edge = edge_back a b h.edge }
-
-  last_side : (a b : Square) (via : List Square) → InSide d w u cell s a → IsChain (IsStep (InSide d w u cell s)) a via b → InSide d w u cell s b
-  last_side a b [] h chain = subst (λ q. InSide d w u cell s q) chain h
-  last_side a b (x ∷ xs) h chain = last_side x b xs chain.0.to chain.1
-
   end_kept : (x : Edge) → IsWide d w u cell s x → ((q : Square) → InEnd x q → InFlat d cell (formula w u.ts) q) → (q : Square) → InEnd x q → kept d w cell u.ts q
   end_kept x wide h q i =
       let first : InSide d w u cell s x.outer = record { ring = record { close = close_by d geo cell s x.inner x.outer wide.border.inside wide.border.edge; outside = wide.border.outside }; sd = wide.sd } in
-      let side = last_side x.outer q i.via first i.chain in
+      let side = last_in Edges (InSide d w u cell s) x.outer q i.via first i.chain in
       keep d geo cell (formula w u.ts) q whole.ts (settled.calm q side.ring.close) (h q i)
 
   in_end : (x : Edge) (a b : Square) (via : List Square) → InEnd x a → IsChain (IsStep (InSide d w u cell s)) a via b → IsChain (IsStep (InEnd x)) a via b
@@ -88,7 +81,7 @@ module _ (d : Design) (w : Wiring) (u : Rule) (cell : ℕ) (s : Square) (settled
   on_end : (x : Edge) → IsWide d w u cell s x → ((q : Square) → InEnd x q → InFlat d cell (formula w u.ts) q) → (a b : Square) → InEnd x a → InEnd x b → kept d w cell u.ts a × InOneRegion w (kept d w cell) (At u.ts a) (At u.ts b)
   on_end x wide h a b i j =
       let held = end_kept x wide h in
-      let way = both (IsStep (InSide d w u cell s)) a x.outer b (back (IsStep (InSide d w u cell s)) side_step_back x.outer a i) j in
+      let way = both (IsStep (InSide d w u cell s)) a x.outer b (back (IsStep (InSide d w u cell s)) (adjacent_back Edges (InSide d w u cell s)) x.outer a i) j in
       (held a i, run u.ts (InEnd x) held a b (record { via = way.via; chain = in_end x a b way.via i way.chain }))
 
   at_ends : (a b m n : Node) → a ≡ m → b ≡ n → IsNode w (kept d w cell) a × InOneRegion w (kept d w cell) a b → IsNode w (kept d w cell) m × InOneRegion w (kept d w cell) m n

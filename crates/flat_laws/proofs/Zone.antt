@@ -7,8 +7,7 @@ use Rattle.flat_layout.specs.Zones.{IsDisturbedAbove}
 use Rattle.geo_base.specs.declared.layer.LayerKey.{LayerKey}
 use Rattle.geo_base.specs.Motions.{moved_square}
 use Rattle.geo_base.specs.declared.shapes.Square.{Square}
-use Rattle.flat_laws.proofs.Paths.{moved_square-injective, same_place, disturbs}
-use Rattle.flat_laws.proofs.Names.{extends, shorter}
+use Rattle.flat_laws.proofs.Paths.{moved_square-injective, same_place, disturbs, extends, shorter}
 
 last : (xs : List ℕ) → (xs ≡ []) ⊎ ((ys : List ℕ) × (k : ℕ) × (xs ≡ ys ++ k ∷ []))
 last [] = inl refl

@@ -1,7 +1,7 @@
 -- Flat, disturbed, kept and local squares of a cell and of the cells that it places.
 use Rattle.std.specs.Prelude.{◌≡◌, ◌⊎◌, ◌↔◌, ℕ, List}
-use Rattle.flat_layout.specs.Layers.{InFlat, IsCovered, IsKept, IsKeptBelow, IsLocal, IsStirred}
-use Rattle.flat_layout.specs.Layers.{Formula, inputs, reach}
+use Rattle.flat_layout.specs.Layers.{InFlat, IsCalmAt, IsCovered, IsKept, IsKeptBelow, IsLocal}
+use Rattle.flat_layout.specs.Layers.{Formula, inputs, reach, IsStirred}
 use Rattle.flat_layout.specs.Layout.{Design, InFlatInput, IsDisturbed, IsHeight, IsPlaced}
 use Rattle.flat_layout.specs.Layout.{IsReached, Place, Some_of}
 use Rattle.flat_layout.specs.Plane.{AreWithin}
@@ -9,6 +9,7 @@ use Rattle.flat_layout.specs.Zones.{IsDisturbedAbove}
 use Rattle.geo_base.specs.declared.layer.LayerKey.{LayerKey}
 use Rattle.geo_base.specs.Motions.{moved_square}
 use Rattle.geo_base.specs.declared.shapes.Square.{Square}
+use Rattle.flat_laws.specs.ShutLaws.{ShutInputLaw, undisturbed_way}
 
 -- disturbed squares come down from the cells that place a cell: from their disturbed squares, and
 -- from shapes beside the placement
@@ -19,11 +20,7 @@ ZoneLaw = (d : Design) (keys : List LayerKey) (cell : ℕ) (q : Square) → IsDi
 -- outside the disturbed squares a placed cell has its flat squares in its parent, and no others lie
 -- there
 abbrev pub UndisturbedLaw : Type 0
-UndisturbedLaw =
-    (d : Design) (keys : List LayerKey) (key : LayerKey) (parent k : ℕ) (p : Place) (q : Square)
-    → IsReached d parent → IsPlaced d parent k p → Some_of (λ j. j ≡ key) keys
-    → (IsDisturbed d keys p.cell q → ⊥)
-    → InFlatInput d parent key (moved_square p.motion q) ↔ InFlatInput d p.cell key q
+UndisturbedLaw = ShutInputLaw undisturbed_way
 
 -- within 0 of a square lies that square alone
 abbrev pub StillLaw : Type 0
@@ -39,14 +36,14 @@ NearInputLaw = (d : Design) (cell : ℕ) (name : Formula) (q : Square) → InFla
 -- near what isn't disturbed in a placed cell nothing is in its parent
 abbrev pub CalmLaw : Type 0
 CalmLaw = (d : Design) (keys : List LayerKey) (n parent k : ℕ) (p : Place) (q : Square)
-    → IsPlaced d parent k p → (IsStirred d keys n p.cell q → ⊥)
-    → IsStirred d keys n parent (moved_square p.motion q) → ⊥
+    → IsPlaced d parent k p → IsCalmAt d keys n p.cell q
+    → IsCalmAt d keys n parent (moved_square p.motion q)
 
 -- the flat squares of a name stay where nothing is disturbed within its reach
 abbrev pub SameFlatLaw : Type 0
 SameFlatLaw = (d : Design) (name : Formula) (parent k : ℕ) (p : Place) (q : Square)
     → IsReached d parent → IsPlaced d parent k p
-    → (IsStirred d (inputs name) (reach name) p.cell q → ⊥)
+    → IsCalmAt d (inputs name) (reach name) p.cell q
     → InFlat d parent name (moved_square p.motion q) ↔ InFlat d p.cell name q
 
 -- what the cells hold at and below a cell covers what it keeps

@@ -1,3 +1,4 @@
+pub mod ShutLaws
 pub mod LayerLaws
 pub mod NetLaws
 pub mod GateLaws

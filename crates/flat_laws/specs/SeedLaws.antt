@@ -2,7 +2,7 @@
 use Rattle.std.specs.Prelude.{◌↔◌, ℕ, ◌+◌, Bool, true, ◌≡◌, ◌⊎◌}
 use Rattle.flat_layout.specs.Gates.{Geometry, InGate, IsGateBelow, IsGateOrRing, IsListedGate}
 use Rattle.flat_layout.specs.Gates.{IsSettled, IsSoundGeometry}
-use Rattle.flat_layout.specs.Layers.{InFlat, IsKept, IsStirred}
+use Rattle.flat_layout.specs.Layers.{InFlat, IsCalmAt, IsKept, IsStirred}
 use Rattle.flat_layout.specs.Layout.{Design, IsPlaced, IsReached, Place}
 use Rattle.flat_layout.specs.Parts.{InPart}
 use Rattle.flat_layout.specs.Plane.{AreWithin, IsAround}
@@ -35,7 +35,7 @@ abbrev pub CalmThroughLaw : Type 0
 CalmThroughLaw = (d : Design) (g : Geometry) (cell k : ℕ) (p : Place) (s : Square)
     → IsSoundGeometry g → IsReached d cell → IsPlaced d cell k p → InFlat d cell g.region s
     → ((q : Square) → IsGateOrRing d g cell s (moved_square p.motion q)
-    → IsStirred d g.keys g.reach p.cell q → ⊥) → IsGateThrough d g cell s p
+    → IsCalmAt d g.keys g.reach p.cell q) → IsGateThrough d g cell s p
 
 -- the test by tables: a set that has all in reach of the placed cell, and which of its squares lie
 -- within reach of disturbed ones

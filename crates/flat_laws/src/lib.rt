@@ -17,6 +17,7 @@ ghost use Rattle.flat_laws.specs.NetLaws.{TouchLaw, RegionLaw, OneParentLaw, One
 ghost use Rattle.flat_laws.specs.NetLaws.{TogetherLaw};
 ghost use Rattle.flat_laws.specs.NetlistLaws.{RowsLaw, PlannedLaw, PartLaw, NetLaw, NetlistLaw};
 ghost use Rattle.flat_laws.specs.NetlistLaws.{DeviceOfRuleLaw, FlatNetlistLaw, FlatRegionLaw};
+ghost use Rattle.flat_laws.specs.ShutLaws.{AreShutLaws, undisturbed_way};
 ghost use Rattle.flat_laws.specs.SeedLaws.{ReachLaw, SeedLaw, ThroughLaw};
 ghost use Rattle.flat_laws.specs.SeedLaws.{CalmThroughLaw, TestLaw, BelowLaw, OwnSeedLaw};
 ghost use Rattle.flat_laws.specs.SeedLaws.{KeptPartLaw, ClosedLaw, PartedLaw};
@@ -30,6 +31,12 @@ pub fn zones()
 pub fn reaches()
     ensures still { StillLaw }
     ensures near { NearInputLaw }
+{}
+
+/// What the laws of kept squares and of gates stand on: squares that nothing disturbs are shut in
+/// the sense of these laws.
+pub fn shut_squares()
+    ensures { AreShutLaws undisturbed_way }
 {}
 
 /// Undisturbed squares look the same from above.

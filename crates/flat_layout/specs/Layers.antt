@@ -52,10 +52,21 @@ pub record IsStirred (d : Design) (keys : List LayerKey) (n cell : ℕ) (q : Squ
   pub within : AreWithin n square q
   pub disturbed : IsDisturbed d keys cell square
 
--- a flat square within whose reach nothing is disturbed for the name's inputs
+-- nothing from elsewhere lies over q on these layers: the square is shut in the cell
+abbrev pub IsShut : Design → List LayerKey → ℕ → Square → Type 0
+IsShut d keys cell q = IsDisturbed d keys cell q → ⊥
+
+-- and all within n of it is
+abbrev pub IsCalmAt : Design → List LayerKey → ℕ → ℕ → Square → Type 0
+IsCalmAt d keys n cell q = IsStirred d keys n cell q → ⊥
+
+-- what others draw within the name's reach may make it a square of the name without the cell
+abbrev pub IsLone : Design → ℕ → Formula → Square → Type 0
+IsLone d cell name q = IsStirred d (inputs name) (reach name) cell q
+
+-- a flat square within whose reach all is shut for the name's inputs
 abbrev pub IsCalmFlat : Design → ℕ → Formula → Square → Type 0
-IsCalmFlat d cell name q = InFlat d cell name q
-    × (IsStirred d (inputs name) (reach name) cell q → ⊥)
+IsCalmFlat d cell name q = InFlat d cell name q × IsCalmAt d (inputs name) (reach name) cell q
 
 -- the cell keeps q: of a derived name such a square, of an input layer each flat square
 abbrev pub IsKept : Design → ℕ → Formula → Square → Type 0

@@ -1,5 +1,5 @@
--- The edge-connected parts of a set of unit squares, and what lies round one: its ring, the groups
--- beside it, its boundary edges.
+-- The regions of a set of unit squares, joined at edges or at corners, and what lies round one: its
+-- ring, the groups beside it, its boundary edges.
 use Rattle.std.specs.Prelude.{◌≡◌, ◌⊎◌, ◌↔◌, ℕ, ◌+◌, ◌<◌, List, [], ◌∷◌, length}
 use Rattle.geo_base.specs.declared.shapes.Square.{Square}
 use Rattle.plain_netlist.specs.Chains.{Reaches}
@@ -9,16 +9,32 @@ use Rattle.flat_layout.specs.declared.cause.GateCause.{GateCause}
 use Rattle.flat_layout.specs.declared.cause.GateCause.TheVariants.{Groups, OffGate, OffSd}
 use Rattle.flat_layout.specs.declared.cause.GateCause.TheVariants.{NoBulk, NoLength}
 
--- neighbours in a set
-pub record IsStep (set : Square → Type 0) (p q : Square) : Type 0 where
+-- what joins two squares of a set: a common edge alone, or a common corner too
+pub data Joint : Type 0 where
+  Edges : Joint
+  Corners : Joint
+
+abbrev pub IsJoint : Joint → Square → Square → Type 0
+IsJoint Edges p q = SharesEdge p q
+IsJoint Corners p q = IsAround p q
+
+-- adjacent squares in a set, and the edge or corner where they meet
+pub record AreAdjacent (joint : Joint) (set : Square → Type 0) (p q : Square) : Type 0 where
   pub from : set p
   pub to : set q
-  pub edge : SharesEdge p q
+  pub edge : IsJoint joint p q
 
--- the edge-connected part of the set that has s
-pub record InPart (set : Square → Type 0) (s q : Square) : Type 0 where
+-- the region of the set that has s: all that it is joined to in the set
+pub record InRegion (joint : Joint) (set : Square → Type 0) (s q : Square) : Type 0 where
   pub from : set s
-  pub joined : Reaches (IsStep set) s q
+  pub joined : Reaches (AreAdjacent joint set) s q
+
+-- steps along edges, and the edge-connected part of the set that has s
+abbrev pub IsStep : (Square → Type 0) → Square → Square → Type 0
+IsStep = AreAdjacent Edges
+
+abbrev pub InPart : (Square → Type 0) → Square → Square → Type 0
+InPart = InRegion Edges
 
 -- the least square of a set
 pub record IsLeast (set : Square → Type 0) (s : Square) : Type 0 where

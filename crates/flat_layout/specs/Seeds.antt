@@ -6,7 +6,7 @@ use Rattle.geo_base.specs.declared.shapes.Square.{Square}
 use Rattle.flat_layout.specs.Gates.{Geometry, IsGateOrRing, IsSettled}
 use Rattle.flat_layout.specs.Layout.{Place, Design, Some_of, IsOwn, IsPlaced, InFlatInput}
 use Rattle.flat_layout.specs.Layout.{IsDisturbed}
-use Rattle.flat_layout.specs.Layers.{IsKept, IsStirred}
+use Rattle.flat_layout.specs.Layers.{IsKept, IsCalmAt}
 use Rattle.flat_layout.specs.Parts.{IsStep, InPart, IsCloseTo}
 use Rattle.flat_layout.specs.Plane.{AreWithin}
 
@@ -58,12 +58,12 @@ pub record IsFreeThrough (d : Design) (g : Geometry) (cell : ℕ) (s : Square) (
     pub reach : (q : Square) → IsGateOrRing d g cell s (moved_square p.motion q)
         → IsInReach d g.keys (g.reach + 1) p.cell q
     pub calm : (q : Square) → IsGateOrRing d g cell s (moved_square p.motion q)
-        → IsStirred d g.keys g.reach p.cell q → ⊥
+        → IsCalmAt d g.keys g.reach p.cell q
 
 -- within the geometry's reach nothing is disturbed close to the part of the kept gate squares that has s
 pub record IsCalmPart (d : Design) (g : Geometry) (cell : ℕ) (s : Square) : Type 0 where
   pub calm : (q : Square) → IsCloseTo (InPart (IsKept d cell g.region) s) q
-      → IsStirred d g.keys g.reach cell q → ⊥
+      → IsCalmAt d g.keys g.reach cell q
 
 -- found squares are kept gate squares, with all that steps lead to
 pub record IsClosed (d : Design) (g : Geometry) (cell : ℕ) (found : Square → Bool) : Type 0 where

@@ -1,1 +1,3 @@
 mod Calm
+pub mod Turns
+pub mod Ways

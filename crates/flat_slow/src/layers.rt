@@ -4,10 +4,10 @@ ghost use Rattle.std.specs.Prelude.{◌↔◌, IsTrue, IfSome};
 ghost use Rattle.flat_layout.specs.Layers.{InFlat, IsKept, IsKeptBelow, IsLocal, inputs};
 ghost use Rattle.flat_layout.specs.Layout.{IsDisturbed};
 ghost use Rattle.flat_slow.specs.Slow.{plain_formula};
-ghost use Rattle.slow_paths.specs.Slow.{plain};
+ghost use Rattle.flat_slow.specs.Paths.{plain};
 
+use crate::{SlowDesign, in_input, is_disturbed, is_own, origin};
 use geo_base::{LayerKey, Op, Square};
-use slow_paths::{SlowDesign, in_input, is_disturbed, is_own, origin};
 
 /// A layer as what it is made of.
 #[derive(Debug, Drop)]

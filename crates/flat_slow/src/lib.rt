@@ -5,7 +5,12 @@
 //! other answer is the definition's.
 #![tactic(auto)]
 
+mod design;
 mod layers;
+mod moves;
+mod paths;
 
+pub use design::{SlowCell, SlowDesign, SlowPlace, SlowShape, is_own};
 pub use layers::{Formula, in_flat, is_kept, is_local};
-pub use slow_paths::{SlowCell, SlowDesign, SlowPlace, SlowShape, in_input, is_disturbed};
+pub use moves::origin;
+pub use paths::{in_input, is_disturbed};

@@ -4,7 +4,7 @@ use Rattle.std.specs.List.{All}
 use Rattle.std.proofs.lemmas.Bool.{false≢true, and_from, or_cases, or_left, or_right, cases_Bool, not-true, and_parts}
 use Rattle.std.proofs.lemmas.Int.{ints}
 use Rattle.std.proofs.lemmas.List.{take_all}
-use Rattle.geo_base.specs.Rects.{has}
+use Rattle.geo_base.specs.Rects.{has, grown}
 use Rattle.geo_base.specs.declared.layer.Op.TheVariants.{And}
 use Rattle.geo_base.specs.declared.shapes.Rect.{Rect}
 use Rattle.geo_base.specs.declared.shapes.Square.{Square}
@@ -15,7 +15,7 @@ use Rattle.sized_layers.specs.Sizes.{IsSetWithin, IsSquareWithin}
 use Rattle.flat_layout.specs.Layers.{Binary, Formula, IsKept, IsStirred, inputs, reach}
 use Rattle.flat_layout.specs.Plane.{AreWithin, IsReachedBy}
 use Rattle.flat_laws.proofs.Moves.{farther}
-use Rattle.cell_graph.specs.Grown.{grown, IsInGrown}
+use Rattle.cell_graph.specs.Grown.{IsInGrown}
 use Rattle.cell_graph.specs.Linked.{HullIsSound, IsRectWithin, IsSound, Linked, cell_at, hull_of, plain}
 use Rattle.cell_graph.proofs.Bridge.{has_in, hull_sound, in_has}
 use Rattle.cell_graph.proofs.Growing.{grown_frame, near_square, wider_grown, within_grown, within_rect}

@@ -4,14 +4,14 @@ use Rattle.base_laws.proofs.Items.{one_entry}
 use Rattle.std.proofs.lemmas.Bool.{and_parts, and_from, cases_Bool}
 use Rattle.std.specs.List.{All}
 use Rattle.geo_base.specs.Motions.{moved_square}
-use Rattle.geo_base.specs.Rects.{has}
+use Rattle.geo_base.specs.Rects.{has, grown}
 use Rattle.geo_base.specs.declared.motion.Motion.{Motion}
 use Rattle.geo_base.specs.declared.shapes.Rect.{Rect}
 use Rattle.geo_base.specs.declared.shapes.Square.{Square}
 use Rattle.rect_sets.specs.Rects.{covers}
 use Rattle.rect_sets.specs.Rects.{IsCanonical}
 use Rattle.rect_sets.proofs.Unique.{listed_get, rect_of}
-use Rattle.cell_graph.specs.Grown.{IsInGrown, grown}
+use Rattle.cell_graph.specs.Grown.{IsInGrown}
 use Rattle.cell_graph.specs.Linked.{Linked, IsFrame, IsRectWithin, cell_at, hull_of, motion_at}
 use Rattle.cell_context.specs.declared.arrays.Visit.{Visit}
 use Rattle.cell_context.specs.Over.{IsVisit, AreVisited}

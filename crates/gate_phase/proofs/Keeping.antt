@@ -3,7 +3,7 @@ use Rattle.std.proofs.Common.{◌≡◌, inl, inr, ℕ, ◌<◌, ◌≤◌, ◌+
 use Rattle.std.proofs.lemmas.Bool.{and_from, or_cases, or_left, or_right, and_parts}
 use Rattle.std.specs.List.{All}
 use Rattle.geo_base.specs.Motions.{moved_square}
-use Rattle.geo_base.specs.Rects.{has, IsRect}
+use Rattle.geo_base.specs.Rects.{has, IsRect, grown}
 use Rattle.geo_base.specs.declared.motion.Motion.{Motion}
 use Rattle.geo_base.specs.declared.shapes.Rect.{Rect}
 use Rattle.geo_base.specs.declared.shapes.Square.{Square}
@@ -20,7 +20,7 @@ use Rattle.flat_layout.specs.Layers.{Formula, IsKept, IsKeptBelow, reach}
 use Rattle.flat_layout.specs.Values.{IsLocalLayer}
 use Rattle.flat_laws.proofs.Cover.{reached_below, kept_above, kept_here}
 use Rattle.cell_graph.specs.Linked.{Linked, IsSound, IsRectWithin, HullHas, HullIsSound, hull_of, cell_at, motion_at, plain, reference}
-use Rattle.cell_graph.specs.Grown.{grown, IsInGrown}
+use Rattle.cell_graph.specs.Grown.{IsInGrown}
 use Rattle.cell_graph.proofs.Growing.{grown_frame}
 use Rattle.cell_graph.proofs.Bridge.{hull_sound, inside_has, in_has, placed_of, step_of}
 use Rattle.cell_context.specs.declared.arrays.Visit.{Visit}

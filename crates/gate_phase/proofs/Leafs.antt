@@ -13,7 +13,8 @@ use Rattle.flat_laws.proofs.Cover.{kept_here}
 use Rattle.flat_laws.proofs.Moves.{within_back}
 use Rattle.cell_graph.specs.declared.cells.Place.{Place}
 use Rattle.cell_graph.specs.Linked.{Linked, IsSound, HullHas, cell_at, hull_of, places_at, plain}
-use Rattle.cell_graph.specs.Grown.{grown, IsInGrown}
+use Rattle.cell_graph.specs.Grown.{IsInGrown}
+use Rattle.geo_base.specs.Rects.{grown}
 use Rattle.cell_graph.proofs.Bridge.{hulls, step_of}
 use Rattle.cell_graph.proofs.Growing.{within_grown}
 use Rattle.gate_phase.proofs.Keeping.{one_window}

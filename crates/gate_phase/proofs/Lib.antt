@@ -16,6 +16,7 @@ pub mod Marking
 pub mod Owning
 pub mod Results
 pub mod Reaching
+pub mod Ready
 pub mod RowsOf
 pub mod Netting
 pub mod RuleLists

@@ -3,7 +3,7 @@ use Rattle.std.proofs.Common.{◌≡◌, ℕ, zero, suc, ◌<◌, ◌≤◌, ◌
 use Rattle.std.proofs.lemmas.Bool.{and_from}
 use Rattle.std.specs.List.{All}
 use Rattle.std.proofs.lemmas.Option.{slice_get-get_or}
-use Rattle.geo_base.specs.Rects.{has}
+use Rattle.geo_base.specs.Rects.{has, grown}
 use Rattle.geo_base.specs.declared.shapes.Rect.{Rect}
 use Rattle.geo_base.specs.declared.shapes.Square.{Square}
 use Rattle.rect_sets.specs.Near.{HasNearCorners}
@@ -21,7 +21,7 @@ use Rattle.deep_tables.proofs.Reading.{layer_at}
 use Rattle.gate_search.specs.Gather.{AreMet}
 use Rattle.gate_phase.specs.Kept.{HasLocals, HoldsNear}
 use Rattle.gate_phase.specs.Layer.{IsKeptNear, KeptOf, formula_of}
-use Rattle.cell_graph.specs.Grown.{grown, IsInGrown}
+use Rattle.cell_graph.specs.Grown.{IsInGrown}
 use Rattle.cell_graph.proofs.Growing.{grown_frame}
 use Rattle.gate_phase.proofs.Holding.{frame_corners}
 use Rattle.gate_phase.proofs.Keeping.{in_one, kept_grown, one_window}

@@ -1,11 +1,11 @@
 -- What the tables hold of a name.
 use Rattle.std.specs.Prelude.{◌≡◌, ℕ, ◌≤◌, ◌^◌, List, Some, get_or}
-use Rattle.geo_base.specs.Rects.{IsRect}
+use Rattle.geo_base.specs.Rects.{IsRect, IsInside}
 use Rattle.geo_base.specs.declared.shapes.Rect.{Rect}
 use Rattle.flat_layout.specs.Layers.{Formula, reach}
 use Rattle.flat_layout.specs.Layout.{Design, IsReached}
 use Rattle.flat_layout.specs.Values.{IsLocalLayer}
-use Rattle.cell_graph.specs.Linked.{IsInside, IsRectWithin}
+use Rattle.cell_graph.specs.Linked.{IsRectWithin}
 use Rattle.deep_tables.specs.Layers.{layer_of}
 use Rattle.gate_phase.specs.Indexes.{LayersOf}
 

@@ -5,6 +5,7 @@ pub mod Indexes
 pub mod Judged
 pub mod Kept
 pub mod Layer
+pub mod More
 pub mod Both
 pub mod Own
 pub mod Work
@@ -13,4 +14,5 @@ pub mod Rows
 pub mod Search
 pub mod Seeding
 pub mod Shape
+pub mod Site
 pub mod Terminals

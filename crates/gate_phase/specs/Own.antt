@@ -1,39 +1,27 @@
 -- The gates of a cell's own for a device rule, with their shapes.
 use Rattle.std.specs.Prelude.{◌≡◌, ◌⊎◌, ◌↔◌, ℕ, ◌<◌, ◌^◌, pos, ◌+ℤ◌, true, false, Bool, List, []}
 use Rattle.std.specs.Prelude.{◌∷◌, ◌++◌, Option, Some, None}
-use Rattle.std.specs.Prelude.{length, slice_get}
+use Rattle.std.specs.Prelude.{slice_get}
 use Rattle.geo_base.specs.Near.{IsWithin}
 use Rattle.geo_base.specs.declared.shapes.Rect.{Rect}
 use Rattle.geo_base.specs.declared.shapes.Square.{Square}
 use Rattle.flat_layout.specs.Gates.{Geometry, Rule, InGate, IsGateBelow, IsLeast, IsListedGate}
 use Rattle.flat_layout.specs.Gates.{IsSettled, form_of, gate_reach, geometry, sheets}
 use Rattle.flat_layout.specs.Layers.{IsKept}
-use Rattle.flat_layout.specs.Layout.{Design, IsReached}
+use Rattle.flat_layout.specs.Layout.{Design}
 use Rattle.flat_layout.specs.Plane.{IsSquareBefore}
 use Rattle.flat_layout.specs.Regions.{Wiring}
 use Rattle.cell_graph.specs.Grown.{IsInGrown}
-use Rattle.cell_graph.specs.Linked.{Linked, cell_at, hull_of, plain}
+use Rattle.cell_graph.specs.Linked.{Linked, cell_at, hull_of}
 use Rattle.rule_text.specs.Rules.{Rules}
-use Rattle.rule_text.specs.Sound.{IsSound}
 use Rattle.rule_layers.specs.Meaning.{device_rules, wiring_of}
-use Rattle.deep_tables.specs.Zones.{AreZones}
 use Rattle.deep_tables.specs.declared.zones.CellZones.{CellZones}
 use Rattle.gate_search.specs.SearchLaws.{IsTold}
 use Rattle.gate_shapes.specs.Sets.{in_set}
 use Rattle.gate_shapes.specs.Shapes.{IsShapeBy}
 use Rattle.gate_phase.specs.Below.{IsFreeElement}
 use Rattle.gate_phase.specs.Close.{MissesOpen}
-use Rattle.gate_phase.specs.Indexes.{AreLayersOf, LayersOf}
 use Rattle.gate_phase.specs.declared.own.OwnGate.{OwnGate}
-
--- a reached cell and a device rule, with right tables
-pub record IsReady (d : Linked) (r : Rules) (z : List (Option CellZones))
-    (l : LayersOf) (cell device : ℕ) : Type 0 where
-  pub rules : IsSound r
-  pub known : device < length (device_rules r)
-  pub zones : AreZones (plain d) r z
-  pub layers : AreLayersOf (plain d) r l
-  pub reached : IsReached (plain d) cell
 
 -- a square that is near enough for a window
 pub record IsUnitNear (s : Square) : Type 0 where

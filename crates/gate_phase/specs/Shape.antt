@@ -1,25 +1,19 @@
 -- A settled gate as a set, with what is close to it.
-use Rattle.std.specs.Prelude.{◌≡◌, ◌↔◌, ℕ, ◌<◌, List, length}
+use Rattle.std.specs.Prelude.{◌≡◌, ◌↔◌, ℕ, List}
 use Rattle.geo_base.specs.declared.shapes.Rect.{Rect}
 use Rattle.geo_base.specs.declared.shapes.Square.{Square}
 use Rattle.flat_layout.specs.Gates.{Geometry, InGate, IsSettled, Rule, geometry}
 use Rattle.flat_layout.specs.Gates.{sheets}
 use Rattle.flat_layout.specs.Layers.{Formula, IsKept}
-use Rattle.flat_layout.specs.Layout.{Design, IsReached}
+use Rattle.flat_layout.specs.Layout.{Design}
 use Rattle.flat_layout.specs.Parts.{IsCloseTo, Sheets}
-use Rattle.flat_layout.specs.Regions.{Wiring}
 use Rattle.plain_netlist.specs.declared.kinds.DeviceKind.{DeviceKind}
 use Rattle.plain_netlist.specs.declared.kinds.DeviceKind.TheVariants.{Mos4, ResistorWithBulk, Diode}
-use Rattle.cell_graph.specs.Linked.{Linked, plain}
-use Rattle.rule_text.specs.Rules.{Rules}
-use Rattle.rule_text.specs.Seen.{rules_seen}
-use Rattle.rule_text.specs.Sound.{IsSound}
-use Rattle.rule_layers.specs.Meaning.{wiring_of}
 use Rattle.gate_shapes.specs.Sets.{in_set}
 use Rattle.gate_search.specs.Gather.{AreMet}
-use Rattle.gate_phase.specs.Indexes.{AreLayersOf, LayersOf}
 use Rattle.gate_phase.specs.Kept.{HasLocals}
-use Rattle.gate_phase.specs.declared.shape.Site.{Site}
+use Rattle.gate_phase.specs.Site.{layout_at, wiring_at}
+use Rattle.gate_phase.specs.declared.site.Site.{Site}
 
 -- the part is the settled gate that has s, and these squares are close to it
 pub record IsGatePart (d : Design) (g : Geometry) (cell : ℕ) (s : Square)
@@ -35,24 +29,7 @@ IsGateSheet Mos4 keeps windows part sheet = AreMet keeps windows sheet
 IsGateSheet ResistorWithBulk keeps windows part sheet = sheet ≡ part
 IsGateSheet Diode keeps windows part sheet = sheet ≡ part
 
--- a reached cell with right layers
-pub record IsReadyShape (d : Linked) (r : Rules) (l : LayersOf) (cell : ℕ) : Type 0 where
-  pub rules : IsSound r
-  pub known : cell < length d.cells
-  pub layers : AreLayersOf (plain d) r l
-  pub reached : IsReached (plain d) cell
-
 -- The same of a site: a cell with its layout, the rules and the layers.
-
-abbrev pub layout_at : Site → Design
-layout_at site = plain site.design.now
-
-abbrev pub wiring_at : Site → Wiring
-wiring_at site = wiring_of (rules_seen site.rules.now)
-
-abbrev pub IsReadySite : Site → Type 0
-IsReadySite site = IsReadyShape site.design.now (rules_seen site.rules.now) site.layers.now
-    site.cell
 
 -- the set is what the cell keeps of the name, met at these windows
 abbrev pub IsKeptAt : Site → ℕ → (windows set : List Rect) → Type 0

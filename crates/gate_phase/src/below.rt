@@ -7,16 +7,17 @@ ghost use Rattle.rect_sets.specs.Near.{IsNearSet};
 ghost use Rattle.rect_sets.specs.Rects.{covers};
 ghost use Rattle.cell_graph.specs.Linked.{IsFrame, IsRectWithin};
 ghost use Rattle.gate_phase.specs.Below.{IsFree, IsFreeElement, IsFreeIn};
-ghost use Rattle.gate_phase.specs.Close.{HasOpen, HasOpenBelow};
+ghost use Rattle.gate_phase.specs.Close.{HasOpen};
+ghost use Rattle.gate_phase.specs.Site.{IsReadyDevice};
 
 use crate::close::misses;
 use crate::frame::grown_hull;
+use crate::site::DeviceSite;
 use cell_context::{Visit, visits};
-use cell_graph::Design;
-use deep_tables::{IndexedSet, ZoneKey, Zones};
+use deep_tables::{IndexedSet, ZoneKey};
 use gate_shapes::least;
-use geo_base::{Motion, Rect};
-use rect_sets::{RectSet, Rule, combine_rects};
+use geo_base::{Motion, Op, Rect};
+use rect_sets::{RectSet, combine_rects};
 use std::alloc::{AllocError, Global};
 
 // The set as a placed cell has it, which the motion takes here.
@@ -46,7 +47,7 @@ fn is_free(
         ↔ IsFree reach close.now motion.now frame.now zone.now) }
 {
     let there = pulled(alloc, close, motion)?;
-    let outside = combine_rects(alloc, there.rects(), &[*frame], Rule::Not)?;
+    let outside = combine_rects(alloc, there.rects(), &[*frame], Op::Not)?;
     match least(&outside) {
         Some(_) => Ok(false),
         None => misses(alloc, &there, zone, reach),
@@ -57,57 +58,51 @@ fn is_free(
 // there within reach of it.
 fn is_free_visit(
     alloc: Global,
-    design: &Design,
-    zones: &Zones,
-    device: u32,
+    at: &DeviceSite,
     close: &RectSet,
     visit: &Visit,
-    reach: u32,
 ) -> Result<bool, AllocError>
-    requires reach { reach ≤ 10000 }
-    requires cell { visit.now.cell < length design.now.cells }
+    requires ready { IsReadyDevice at.now }
+    requires cell { visit.now.cell < length at.now.site.design.now.cells }
     requires near { IsNearSet close.now }
     requires motion { IsNearMotion visit.now.motion }
-    requires zone { HasOpen zones.now visit.now.cell device }
+    requires zone { HasOpen at.now.site.zones.now visit.now.cell at.now.number }
     ensures { IfOk result (λ b. (b ≡ true)
-        ↔ IsFreeIn reach design.now zones.now device close.now visit.now.cell
-        visit.now.motion) }
+        ↔ IsFreeIn at.now.reach at.now.site.design.now at.now.site.zones.now at.now.number close.now
+        visit.now.cell visit.now.motion) }
 {
-    design.sound();
-    match design.hull(visit.cell) {
+    let site = &at.site;
+    site.design.sound();
+    match site.design.hull(visit.cell) {
         Some(hull) => {
-            let zone = zones.indexed(visit.cell, ZoneKey::Device(device));
-            let frame = grown_hull(&hull, reach + 1);
-            is_free(alloc, close, &visit.motion, &frame, zone, reach)
+            let zone = site.zones.indexed(visit.cell, ZoneKey::Device(at.number));
+            let frame = grown_hull(&hull, at.reach + 1);
+            is_free(alloc, close, &visit.motion, &frame, zone, at.reach)
         }
         None => Ok(false),
     }
 }
 
 /// Whether a gate of the cell comes from below, by what is close to it: through some element that
-/// reaches into `start`, a rectangle of the gate. The rule reaches so far.
+/// reaches into `start`, a rectangle of the gate.
 pub fn is_below(
     alloc: Global,
-    design: &Design,
-    zones: &Zones,
-    cell: u32,
-    device: u32,
+    at: &DeviceSite,
     close: &RectSet,
     start: &Rect,
-    reach: u32,
 ) -> Result<bool, AllocError>
-    requires reach { reach ≤ 10000 }
-    requires cell { cell < length design.now.cells }
+    requires ready { IsReadyDevice at.now }
     requires near { IsNearSet close.now }
     requires start { IsRectWithin (2 ^ 39) start.now }
-    requires zones { HasOpenBelow design.now zones.now cell device }
     ensures { IfOk result (λ b. (b ≡ true)
-        ↔ IsFreeElement reach design.now zones.now cell device close.now start.now) }
+        ↔ IsFreeElement at.now.reach at.now.site.design.now at.now.site.zones.now at.now.site.cell
+        at.now.number close.now start.now) }
 {
-    design.sound();
-    let list = visits(alloc, design, cell, start, None, reach)?;
+    let site = &at.site;
+    site.design.sound();
+    let list = visits(alloc, site.design, site.cell, start, None, at.reach)?;
     for visit in &list {
-        if is_free_visit(alloc, design, zones, device, close, visit, reach)? {
+        if is_free_visit(alloc, at, close, visit)? {
             return Ok(true);
         }
     }

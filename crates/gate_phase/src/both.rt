@@ -16,10 +16,9 @@ use crate::nearby::rects_within_reach;
 use cell_context::grown;
 use cell_graph::Design;
 use deep_tables::{IndexedSet, ZoneKey, Zones};
-use edge_boolean::combine;
 use gate_search::GateLayer;
 use geo_base::{Op, Rect};
-use rect_sets::{RectSet, Rule, combine_rects};
+use rect_sets::{RectSet, combine_rects};
 use rule_text::RuleSet;
 use std::alloc::{AllocError, Global};
 use std::marker::Model;
@@ -61,7 +60,7 @@ fn calm(alloc: Global, set: &RectSet, zone: &IndexedSet, reach: u32) -> Result<R
         stirred.extend_from_slice(&more)?;
     }
     let near = rects_within_reach(alloc, stirred, reach)?;
-    let found = combine_rects(alloc, set.rects(), &near, Rule::Not)?;
+    let found = combine_rects(alloc, set.rects(), &near, Op::Not)?;
     Ok(found)
 }
 
@@ -82,7 +81,7 @@ pub fn calm_in_both(
     requires set { IsSetWithin (2 ^ 38) first.now }
     ensures { IfOk result (AreCalmInBoth reach zones.now cell names first.now second.now) }
 {
-    let both = combine(alloc, first, second, Op::And)?;
+    let both = first.combined(alloc, second, Op::And)?;
     let one = zones.indexed(cell, ZoneKey::Layer(names.0));
     let once = calm(alloc, &both, one, reach)?;
     let other = zones.indexed(cell, ZoneKey::Layer(names.1));

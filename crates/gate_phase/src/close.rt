@@ -6,10 +6,12 @@ ghost use Rattle.rect_sets.specs.Near.{IsNearSet};
 ghost use Rattle.flat_layout.specs.Parts.{IsCloseTo};
 ghost use Rattle.cell_graph.specs.Linked.{IsRectWithin};
 ghost use Rattle.gate_shapes.specs.Sets.{in_set};
-ghost use Rattle.gate_phase.specs.Close.{AreApart, HasOpen, MissesOpen};
+ghost use Rattle.gate_phase.specs.Close.{AreApart, MissesOpen};
+ghost use Rattle.gate_phase.specs.Site.{IsReadyDevice};
 
+use crate::site::DeviceSite;
 use cell_context::grown;
-use deep_tables::{IndexedSet, ZoneKey, Zones};
+use deep_tables::{IndexedSet, ZoneKey};
 use gate_shapes::grown as ring_windows;
 use rect_sets::RectSet;
 use std::alloc::{AllocError, Global};
@@ -45,18 +47,16 @@ pub fn misses(
 
 /// Whether nothing is disturbed in the cell for a device rule within the rule's reach of what is
 /// close.
-pub fn is_undisturbed(
-    alloc: Global,
-    zones: &Zones,
-    cell: u32,
-    device: u32,
-    close: &RectSet,
-    reach: u32,
-) -> Result<bool, AllocError>
-    requires zone { HasOpen zones.now cell device }
+pub fn is_undisturbed(alloc: Global, at: &DeviceSite, close: &RectSet) -> Result<bool, AllocError>
+    requires ready { IsReadyDevice at.now }
     requires windows { All (IsRectWithin (2 ^ 39)) close.now }
-    ensures { IfOk result (λ b. (b ≡ true) ↔ MissesOpen reach zones.now cell device close.now) }
+    ensures { IfOk result (λ b. (b ≡ true)
+        ↔ MissesOpen at.now.reach at.now.site.zones.now at.now.site.cell at.now.number close.now) }
 {
-    let zone = zones.indexed(cell, ZoneKey::Device(device));
-    misses(alloc, close, zone, reach)
+    at.site.design.sound();
+    let zone = at
+        .site
+        .zones
+        .indexed(at.site.cell, ZoneKey::Device(at.number));
+    misses(alloc, close, zone, at.reach)
 }

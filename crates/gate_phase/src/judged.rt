@@ -5,10 +5,8 @@ ghost use Rattle.gate_phase.specs.Judged.{AreGatesOf, IsGateOf, IsHeldShape, IsS
 ghost use Rattle.gate_phase.specs.Terminals.{grounds_seen};
 ghost use Rattle.gate_phase.specs.declared.own.OwnGate.{OwnGate};
 
-use crate::bulks::Grounds;
-use crate::device::Device;
 use crate::own::OwnGate;
-use crate::terminals::terminal_nets;
+use crate::terminals::{Terminals, terminal_nets};
 use deep_tables::{Gate, GateState};
 use gate_shapes::GateShape;
 use geo_base::Square;
@@ -18,28 +16,26 @@ use std::alloc::{AllocError, Global};
 // The verdict on a gate of this shape.
 fn state_of<C: Cells>(
     alloc: Global,
-    cells: &C,
-    cell: u32,
-    rule: &Device,
-    grounds: Grounds,
-    globals: u32,
+    at: &Terminals<'_, C>,
     least: Square,
     shape: GateShape,
 ) -> Result<GateState, AllocError>
-    requires globals { globals ≡ length (C.wiring cells.now).globals }
-    requires nets { AreNetsUnder (C.design cells.now) (C.wiring cells.now) (C.tables cells.now)
-        cell }
-    requires held { IsHeldShape (C.design cells.now) (C.wiring cells.now) (C.tables cells.now)
-        rule.now cell (grounds_seen grounds) least shape }
-    ensures { IfOk result (IsStateOf (C.design cells.now) (C.wiring cells.now) (C.tables cells.now)
-        rule.now (grounds_seen grounds) cell least shape) }
+    requires globals { at.now.globals ≡ length (C.wiring at.now.cells.now).globals }
+    requires nets { AreNetsUnder (C.design at.now.cells.now) (C.wiring at.now.cells.now)
+        (C.tables at.now.cells.now) at.now.cell }
+    requires held { IsHeldShape (C.design at.now.cells.now) (C.wiring at.now.cells.now)
+        (C.tables at.now.cells.now) at.now.device at.now.cell (grounds_seen at.now.grounds) least
+        shape }
+    ensures { IfOk result (IsStateOf (C.design at.now.cells.now) (C.wiring at.now.cells.now)
+        (C.tables at.now.cells.now) at.now.device (grounds_seen at.now.grounds) at.now.cell least
+        shape) }
 {
     match shape {
         GateShape::Bad(cause) => Ok(GateState::Bad(cause)),
         GateShape::Good(form) => {
-            let nets = terminal_nets(alloc, cells, cell, rule, grounds, globals, least, &form)?;
+            let nets = terminal_nets(alloc, at, least, &form)?;
             Ok(GateState::Good {
-                kind: rule.kind,
+                kind: at.device.kind,
                 twice_w: form.twice_w,
                 twice_l: form.twice_l,
                 nets,
@@ -48,34 +44,29 @@ fn state_of<C: Cells>(
     }
 }
 
-/// The gates of a cell's list for a device rule, one for each of the cell's own gates for it, in
-/// their order. A walk in a window of one square for each terminal.
+/// The gates of a cell's list for the device rule of this number, one for each of the cell's own
+/// gates for it, in their order. A walk in a window of one square for each terminal.
 pub fn judged_gates<C: Cells>(
     alloc: Global,
-    cells: &C,
-    cell: u32,
-    device: u32,
-    rule: &Device,
-    grounds: Grounds,
-    globals: u32,
+    at: &Terminals<'_, C>,
+    number: u32,
     own: Vec<OwnGate>,
 ) -> Result<Vec<Gate>, AllocError>
-    requires globals { globals ≡ length (C.wiring cells.now).globals }
-    requires nets { AreNetsUnder (C.design cells.now) (C.wiring cells.now) (C.tables cells.now)
-        cell }
+    requires globals { at.now.globals ≡ length (C.wiring at.now.cells.now).globals }
+    requires nets { AreNetsUnder (C.design at.now.cells.now) (C.wiring at.now.cells.now)
+        (C.tables at.now.cells.now) at.now.cell }
     requires held { (i : ℕ) (x : OwnGate) → slice_get own.items i ≡ Some x → IsHeldShape
-        (C.design cells.now) (C.wiring cells.now) (C.tables cells.now) rule.now cell
-        (grounds_seen grounds) x.least x.shape }
-    ensures { IfOk result (λ v. AreGatesOf (IsGateOf (C.design cells.now) (C.wiring cells.now)
-        (C.tables cells.now) rule.now (grounds_seen grounds) device cell) own.items v.items) }
+        (C.design at.now.cells.now) (C.wiring at.now.cells.now) (C.tables at.now.cells.now)
+        at.now.device at.now.cell (grounds_seen at.now.grounds) x.least x.shape }
+    ensures { IfOk result (λ v. AreGatesOf (IsGateOf (C.design at.now.cells.now)
+        (C.wiring at.now.cells.now) (C.tables at.now.cells.now) at.now.device
+        (grounds_seen at.now.grounds) number at.now.cell) own.items v.items) }
 {
     let mut gates = Vec::with_capacity(alloc, own.len())?;
     for gate in own {
-        let state = state_of(
-            alloc, cells, cell, rule, grounds, globals, gate.least, gate.shape,
-        )?;
+        let state = state_of(alloc, at, gate.least, gate.shape)?;
         gates.push(Gate {
-            device,
+            device: number,
             area: gate.area,
             least: gate.least,
             state,

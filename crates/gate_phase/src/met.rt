@@ -8,7 +8,6 @@ ghost use Rattle.rect_sets.specs.Rects.{IsListed, covers};
 ghost use Rattle.tile_index.specs.Windows.{ArePositions};
 ghost use Rattle.gate_phase.specs.Indexes.{AreMetOf};
 
-use cell_context::meet;
 use deep_tables::IndexedSet;
 use geo_base::Rect;
 use std::alloc::{AllocError, Global};
@@ -23,7 +22,7 @@ fn push_met(out: &mut Vec<Rect>, rect: &Rect, window: &Rect) -> Result<(), Alloc
     ensures here { OnOk result ((q : Square) → has rect.now q ≡ true → has window.now q ≡ true
         → covers out.new.items q ≡ true) }
 {
-    if meet(rect, window).is_some() {
+    if rect.meets(window) {
         out.push(*rect)?;
     }
     Ok(())

@@ -1,37 +1,29 @@
 //! Where the regions of a cell's own are among what it keeps of their layer.
-ghost use Rattle.std.specs.Prelude.{◌≡◌, ◌<◌, ◌≤◌, ◌^◌, [], List, length, slice_get, Some, IfOk};
-ghost use Rattle.std.specs.Prelude.{IsSome};
+ghost use Rattle.std.specs.Prelude.{◌≡◌, ◌≤◌, ◌^◌, [], List, Some, IfOk, IsSome};
 ghost use Rattle.geo_base.specs.declared.shapes.Rect.{Rect};
 ghost use Rattle.rect_sets.specs.Near.{IsNearSet};
 ghost use Rattle.flat_layout.specs.Gates.{Rule, geometry};
-ghost use Rattle.flat_layout.specs.Layout.{IsReached};
-ghost use Rattle.cell_graph.specs.Linked.{cell_at, places_at, plain};
-ghost use Rattle.rule_text.specs.Seen.{rules_seen};
-ghost use Rattle.rule_text.specs.Sound.{IsSound};
-ghost use Rattle.rule_layers.specs.Meaning.{device_rules, wiring_of};
+ghost use Rattle.cell_graph.specs.Linked.{cell_at, places_at};
 ghost use Rattle.deep_tables.specs.Layers.{layer_of};
-ghost use Rattle.gate_phase.specs.Indexes.{AreLayersOf};
 ghost use Rattle.gate_search.specs.Gather.{IsGatheredAround};
 ghost use Rattle.gate_shapes.specs.PartLists.{AreParts};
-ghost use Rattle.gate_phase.specs.Both.{AreCalmInBoth, ArePartsAround, HasNearZone, IsReadyRegion};
-ghost use Rattle.gate_phase.specs.Both.{region_formula};
-ghost use Rattle.gate_phase.specs.Devices.{devices_of, region_reach};
+ghost use Rattle.gate_phase.specs.Both.{AreCalmInBoth, HasNearZone};
+ghost use Rattle.gate_phase.specs.Devices.{region_reach};
 ghost use Rattle.gate_phase.specs.declared.device.Region.TheVariants.{Both};
 ghost use Rattle.sized_layers.specs.Sizes.{IsSetWithin};
-ghost use Rattle.gate_phase.specs.Own.{IsReady, IsRuleReach};
-ghost use Rattle.gate_phase.specs.Search.{AreSearched};
+ghost use Rattle.gate_phase.specs.Search.{ArePartsAt, AreSearched, IsRegionAt};
+ghost use Rattle.gate_phase.specs.Site.{HasRule, IsReadyDevice, IsReadySite, layout_at, wiring_at};
 
 use crate::both::{BothLayer, calm_in_both};
-use crate::device::{Device, Region};
+use crate::device::Region;
 use crate::indexes::IndexedLayers;
 use crate::layer::KeptLayer;
 use crate::seeds::seeds_of;
-use cell_graph::Design;
+use crate::site::{DeviceSite, Site};
 use deep_tables::Zones;
 use gate_search::{GateLayer, gather_around};
 use gate_shapes::parts;
 use rect_sets::RectSet;
-use rule_text::RuleSet;
 use std::alloc::{AllocError, Global};
 
 // What a cell holds itself of both names, less what is disturbed.
@@ -60,28 +52,17 @@ fn local_in_both(
 }
 
 // The parts of a cell that places nothing: it keeps what it holds itself.
-fn leaf_parts(
-    alloc: Global,
-    design: &Design,
-    rules: &RuleSet,
-    zones: &Zones,
-    layers: &IndexedLayers,
-    cell: u32,
-    region: Region,
-) -> Result<Vec<RectSet>, AllocError>
-    requires rules { IsSound (rules_seen rules.now) }
-    requires leaf { places_at (cell_at design.now cell) ≡ [] }
-    requires region { IsReadyRegion design.now rules.now zones.now cell region }
-    requires layers { AreLayersOf (plain design.now) (rules_seen rules.now) layers.now }
-    requires reached { IsReached (plain design.now) cell }
-    ensures { IfOk result (λ v. (seeds : List Rect) → ArePartsAround (plain design.now) cell
-        (region_formula rules.now region) seeds v.items) }
+fn leaf_parts(alloc: Global, site: &Site, region: Region) -> Result<Vec<RectSet>, AllocError>
+    requires ready { IsReadySite site.now }
+    requires leaf { places_at (cell_at site.now.design.now site.now.cell) ≡ [] }
+    requires region { IsRegionAt site.now region }
+    ensures { IfOk result (λ v. (seeds : List Rect) → ArePartsAt site.now region seeds v.items) }
 {
-    design.sound();
+    site.design.sound();
     match region {
-        Region::One(name) => parts(alloc, layers.local(cell, name)),
+        Region::One(name) => parts(alloc, site.layers.local(site.cell, name)),
         Region::Both(a, b) => {
-            let set = local_in_both(alloc, zones, layers, cell, (a, b))?;
+            let set = local_in_both(alloc, site.zones, site.layers, site.cell, (a, b))?;
             parts(alloc, &set)
         }
     }
@@ -104,30 +85,30 @@ fn parts_around<L: GateLayer>(
 // Those of the layer of regions of what a cell keeps.
 fn region_parts(
     alloc: Global,
-    design: &Design,
-    rules: &RuleSet,
-    zones: &Zones,
-    layers: &IndexedLayers,
-    cell: u32,
+    site: &Site,
     region: Region,
     starts: &RectSet,
 ) -> Result<Vec<RectSet>, AllocError>
+    requires ready { IsReadySite site.now }
     requires near { IsNearSet starts.now }
-    requires rules { IsSound (rules_seen rules.now) }
-    requires region { IsReadyRegion design.now rules.now zones.now cell region }
-    requires layers { AreLayersOf (plain design.now) (rules_seen rules.now) layers.now }
-    requires reached { IsReached (plain design.now) cell }
-    ensures { IfOk result (λ v. ArePartsAround (plain design.now) cell
-        (region_formula rules.now region) starts.now v.items) }
+    requires region { IsRegionAt site.now region }
+    ensures { IfOk result (λ v. ArePartsAt site.now region starts.now v.items) }
 {
-    design.sound();
+    site.design.sound();
     match region {
         Region::One(name) => {
-            let layer = KeptLayer::new(design, rules, layers, cell, name);
+            let layer = KeptLayer::new(site.design, site.rules, site.layers, site.cell, name);
             parts_around(alloc, &layer, starts)
         }
         Region::Both(a, b) => {
-            let layer = BothLayer::new(design, rules, zones, layers, cell, (a, b));
+            let layer = BothLayer::new(
+                site.design,
+                site.rules,
+                site.zones,
+                site.layers,
+                site.cell,
+                (a, b),
+            );
             parts_around(alloc, &layer, starts)
         }
     }
@@ -136,30 +117,18 @@ fn region_parts(
 /// Parts of what a cell keeps of the layer of a device rule's regions, in order of their least
 /// squares: among them all regions of the cell's own. A cell that places nothing keeps what it
 /// holds itself: in O(n log n) for n rectangles of that, and no window is asked.
-pub fn parts_of(
-    alloc: Global,
-    design: &Design,
-    rules: &RuleSet,
-    zones: &Zones,
-    layers: &IndexedLayers,
-    cell: u32,
-    number: u32,
-    device: &Device,
-    reach: u32,
-) -> Result<Vec<RectSet>, AllocError>
-    requires reach { IsRuleReach (rules_seen rules.now) number reach }
-    requires ready { IsReady design.now (rules_seen rules.now) zones.now layers.now cell number }
-    requires device { slice_get (devices_of (rules_seen rules.now)) number ≡ Some device.now }
-    ensures { IfOk result (λ v. (u : Rule)
-        → slice_get (device_rules (rules_seen rules.now)) number ≡ Some u
-        → AreSearched (plain design.now) (geometry (wiring_of (rules_seen rules.now)) u) cell
+pub fn parts_of(alloc: Global, at: &DeviceSite) -> Result<Vec<RectSet>, AllocError>
+    requires ready { IsReadyDevice at.now }
+    ensures { IfOk result (λ v. (u : Rule) → HasRule at.now u
+        → AreSearched (layout_at at.now.site) (geometry (wiring_at at.now.site) u) at.now.site.cell
         v.items) }
 {
-    design.sound();
-    let region = device.region;
-    if design.places(cell).is_empty() {
-        return leaf_parts(alloc, design, rules, zones, layers, cell, region);
+    let site = &at.site;
+    site.design.sound();
+    let region = at.device.region;
+    if site.design.places(site.cell).is_empty() {
+        return leaf_parts(alloc, site, region);
     }
-    let starts = seeds_of(alloc, design, rules, zones, cell, number, device, reach)?;
-    region_parts(alloc, design, rules, zones, layers, cell, region, &starts)
+    let starts = seeds_of(alloc, at)?;
+    region_parts(alloc, site, region, &starts)
 }

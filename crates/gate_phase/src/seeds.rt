@@ -9,37 +9,30 @@ ghost use Rattle.geo_base.specs.declared.shapes.Square.{Square};
 ghost use Rattle.rect_sets.specs.Near.{IsNearSet};
 ghost use Rattle.rect_sets.specs.Rects.{covers};
 ghost use Rattle.flat_layout.specs.Gates.{Rule, geometry};
-ghost use Rattle.flat_layout.specs.Layout.{IsReached};
 ghost use Rattle.flat_layout.specs.Seeds.{IsNearSeed};
 ghost use Rattle.cell_graph.specs.Linked.{IsFrame, IsHull, IsRectWithin, cell_at, own_of};
 ghost use Rattle.cell_graph.specs.Linked.{places_at};
-ghost use Rattle.cell_graph.specs.Linked.{plain};
 ghost use Rattle.cell_graph.specs.declared.cells.Place.{Place};
 ghost use Rattle.cell_context.specs.Arrays.{IsNearArray};
 ghost use Rattle.cell_context.specs.Over.{IsPiece};
 ghost use Rattle.cell_context.specs.Placed.{Brings, Grows};
-ghost use Rattle.rule_text.specs.Seen.{rules_seen};
-ghost use Rattle.rule_text.specs.Sound.{IsSound};
 ghost use Rattle.rule_text.specs.declared.rules.LayerForm.TheVariants.{Input};
-ghost use Rattle.rule_layers.specs.Meaning.{device_rules, wiring_of};
 ghost use Rattle.deep_tables.specs.Frames.{grown};
-ghost use Rattle.deep_tables.specs.Zones.{AreZones};
-ghost use Rattle.gate_phase.specs.Close.{HasOpen, HasOpenBelow};
-ghost use Rattle.gate_phase.specs.Devices.{devices_of};
+ghost use Rattle.gate_phase.specs.Close.{HasOpen};
 ghost use Rattle.gate_phase.specs.Kept.{HoldsNear};
-ghost use Rattle.gate_phase.specs.Own.{IsRuleReach};
 ghost use Rattle.gate_phase.specs.Seeding.{BringsOpen, BringsOwn};
+ghost use Rattle.gate_phase.specs.Site.{HasRule, IsReadyDevice, layout_at, wiring_at};
 
-use crate::device::Device;
 use crate::frame::{grown_hull, plane};
 use crate::nearby::within_reach;
 use crate::reads::names_read;
+use crate::site::DeviceSite;
 use cell_context::push_array;
 use cell_graph::{Design, Place};
-use deep_tables::{ZoneKey, Zones};
+use deep_tables::ZoneKey;
 use geo_base::Rect;
 use rect_sets::RectSet;
-use rule_text::{LayerForm, LayerRule, RuleSet};
+use rule_text::{LayerForm, LayerRule};
 use std::alloc::{AllocError, Global};
 
 // Adds the images of the part of a set in the placed cell's grown hull through all elements of an
@@ -74,29 +67,28 @@ fn push_part(
 fn push_reference(
     alloc: Global,
     out: &mut Vec<Rect>,
-    design: &Design,
-    zones: &Zones,
-    cell: u32,
+    at: &DeviceSite,
     index: usize,
     place: &Place,
-    device: u32,
     plane: &Rect,
     by: u32,
 ) -> Result<(), AllocError>
     requires by { by ≤ 20001 }
-    requires there { slice_get (places_at (cell_at design.now cell)) index ≡ Some place.now }
+    requires there { slice_get (places_at (cell_at at.now.site.design.now at.now.site.cell)) index
+        ≡ Some place.now }
     requires plane { IsRectWithin (2 ^ 39) plane.now }
-    requires entry { HasOpen zones.now place.now.cell device }
+    requires entry { HasOpen at.now.site.zones.now place.now.cell at.now.number }
     requires pieces { All (IsPiece plane.now) out.old.items }
     ensures pieces { OnOk result (All (IsPiece plane.now) out.new.items) }
     ensures grows { OnOk result (Grows out.old.items out.new.items) }
-    ensures brings { OnOk result (BringsOpen by design.now zones.now device place.now plane.now
-        out.new.items) }
+    ensures brings { OnOk result (BringsOpen by at.now.site.design.now at.now.site.zones.now
+        at.now.number place.now plane.now out.new.items) }
 {
-    design.sound();
-    match design.hull(place.cell) {
+    let site = &at.site;
+    site.design.sound();
+    match site.design.hull(place.cell) {
         Some(hull) => {
-            let zone = zones.disturbed(place.cell, ZoneKey::Device(device));
+            let zone = site.zones.disturbed(place.cell, ZoneKey::Device(at.number));
             push_part(alloc, out, place, &grown_hull(&hull, by), zone, plane)
         }
         None => Ok(()),
@@ -107,25 +99,24 @@ fn push_reference(
 fn push_references(
     alloc: Global,
     out: &mut Vec<Rect>,
-    design: &Design,
-    zones: &Zones,
-    cell: u32,
-    device: u32,
+    at: &DeviceSite,
     plane: &Rect,
     by: u32,
 ) -> Result<(), AllocError>
+    requires ready { IsReadyDevice at.now }
     requires by { by ≤ 20001 }
-    requires cell { cell < length design.now.cells }
     requires plane { IsRectWithin (2 ^ 39) plane.now }
-    requires entries { HasOpenBelow design.now zones.now cell device }
     requires pieces { All (IsPiece plane.now) out.old.items }
     ensures pieces { OnOk result (All (IsPiece plane.now) out.new.items) }
     ensures brings { OnOk result ((i : ℕ) (p : Place)
-        → slice_get (places_at (cell_at design.now cell)) i ≡ Some p
-        → BringsOpen by design.now zones.now device p plane.now out.new.items) }
+        → slice_get (places_at (cell_at at.now.site.design.now at.now.site.cell)) i ≡ Some p
+        → BringsOpen by at.now.site.design.now at.now.site.zones.now at.now.number p plane.now
+        out.new.items) }
 {
-    for (i, place) in design.places(cell).iter().enumerate() {
-        push_reference(alloc, out, design, zones, cell, i, place, device, plane, by)?;
+    let site = &at.site;
+    site.design.sound();
+    for (i, place) in site.design.places(site.cell).iter().enumerate() {
+        push_reference(alloc, out, at, i, place, plane, by)?;
     }
     Ok(())
 }
@@ -186,38 +177,23 @@ fn push_all_own(
 /// cell costs its own rectangles on the layers that the rule reads and, for each reference, what is
 /// disturbed in the placed cell, once for each element; a reference to a cell in which nothing is
 /// disturbed costs one look.
-pub fn seeds_of(
-    alloc: Global,
-    design: &Design,
-    rules: &RuleSet,
-    zones: &Zones,
-    cell: u32,
-    number: u32,
-    device: &Device,
-    reach: u32,
-) -> Result<RectSet, AllocError>
-    requires reach { IsRuleReach (rules_seen rules.now) number reach }
-    requires cell { cell < length design.now.cells }
-    requires device { slice_get (devices_of (rules_seen rules.now)) number ≡ Some device.now }
-    requires rules { IsSound (rules_seen rules.now) }
-    requires zones { AreZones (plain design.now) (rules_seen rules.now) zones.now }
-    requires reached { IsReached (plain design.now) cell }
+pub fn seeds_of(alloc: Global, at: &DeviceSite) -> Result<RectSet, AllocError>
+    requires ready { IsReadyDevice at.now }
     ensures near { IfOk result IsNearSet }
-    ensures all { IfOk result (λ s. (u : Rule)
-        → slice_get (device_rules (rules_seen rules.now)) number ≡ Some u
-        → (q : Square)
-        → IsNearSeed (plain design.now) (geometry (wiring_of (rules_seen rules.now)) u) cell q
+    ensures all { IfOk result (λ s. (u : Rule) → HasRule at.now u → (q : Square)
+        → IsNearSeed (layout_at at.now.site) (geometry (wiring_at at.now.site) u) at.now.site.cell q
         → covers s q ≡ true) }
 {
-    design.sound();
-    let names = rules.names.as_slice();
-    let marks = names_read(alloc, names, device)?;
+    let site = &at.site;
+    site.design.sound();
+    let names = site.rules.names.as_slice();
+    let marks = names_read(alloc, names, &at.device)?;
     let plane = plane();
     let mut out = Vec::new(alloc);
-    let by = reach + 1 + reach;
-    push_references(alloc, &mut out, design, zones, cell, number, &plane, by)?;
-    push_all_own(&mut out, design, cell, names, &marks, &plane)?;
+    let by = at.reach + 1 + at.reach;
+    push_references(alloc, &mut out, at, &plane, by)?;
+    push_all_own(&mut out, site.design, site.cell, names, &marks, &plane)?;
     let set = RectSet::canon(alloc, out)?;
-    let starts = within_reach(alloc, set, reach)?;
+    let starts = within_reach(alloc, set, at.reach)?;
     Ok(starts)
 }

@@ -15,13 +15,12 @@ ghost use Rattle.flat_layout.specs.Layers.{Formula};
 ghost use Rattle.rule_layers.specs.Formulas.{formulas};
 ghost use Rattle.gate_phase.specs.Devices.{IsDevice, IsKnownDevice};
 ghost use Rattle.gate_phase.specs.Kept.{HasLocals};
-ghost use Rattle.gate_phase.specs.Shape.{IsGateAt, IsKeptAt, IsPartAt, IsReadySite, IsSheetAt};
-ghost use Rattle.gate_phase.specs.Shape.{layout_at, sheets_at, wiring_at};
+ghost use Rattle.gate_phase.specs.Shape.{IsGateAt, IsKeptAt, IsPartAt, IsSheetAt, sheets_at};
+ghost use Rattle.gate_phase.specs.Site.{IsReadySite, layout_at, wiring_at};
 
 use crate::device::Device;
-use crate::indexes::IndexedLayers;
 use crate::kept::kept_in;
-use cell_graph::Design;
+use crate::site::Site;
 use gate_shapes::{Around, GateShape, Sheets, area_shape, shape_of};
 use geo_base::Rect;
 use plain_netlist::DeviceKind;
@@ -29,13 +28,13 @@ use rect_sets::RectSet;
 use rule_text::RuleSet;
 use std::alloc::{AllocError, Global};
 
-/// A cell, with what its shapes are judged by.
-#[derive(Clone, Copy)]
-pub struct Site<'a> {
-    pub design: &'a Design,
-    pub rules: &'a RuleSet,
-    pub layers: &'a IndexedLayers<'a>,
-    pub cell: u32,
+// The groups of a region: their layer's name by its number, their squares, and what these must lie
+// on.
+#[derive(Drop)]
+struct Groups<'a> {
+    name: u32,
+    area: &'a RectSet,
+    on: &'a RectSet,
 }
 
 // Whether the conductor has no global.
@@ -78,40 +77,37 @@ fn bulk_in(
     Ok(RectSet::empty(alloc))
 }
 
-// The shape of a region by its two groups, by what they and its gate must lie on.
+// The shape of a region by its two groups, and by what these and its gate must lie on.
 fn judged_shape(
     alloc: Global,
     site: &Site<'_>,
     device: &Device,
-    ends: u32,
-    groups: &RectSet,
-    on_ends: &RectSet,
+    groups: &Groups<'_>,
     on_gate: &RectSet,
     part: &RectSet,
     close: &RectSet,
 ) -> Result<GateShape, AllocError>
     requires ready { IsReadySite site.now }
     requires device { IsKnownDevice (rules_seen site.now.rules.now) device.now }
-    requires ends { ends < length site.now.rules.now.names.items }
+    requires ends { groups.now.name < length site.now.rules.now.names.items }
     requires near { IsNearSet part.now }
     requires windows { All (IsRectWithin (2 ^ 39)) close.now }
-    requires groups { IsKeptAt site.now ends close.now groups.now }
-    requires on_ends { IsKeptAt site.now device.now.ts close.now on_ends.now }
+    requires groups { IsKeptAt site.now groups.now.name close.now groups.now.area.now }
+    requires on_ends { IsKeptAt site.now device.now.ts close.now groups.now.on.now }
     requires sheet { IsSheetAt site.now device.now.kind device.now.tg close.now part.now
         on_gate.now }
     ensures { IfOk result (λ x. (u : Rule) (s : Square)
         → IsDevice (formulas site.now.rules.now.names.items) device.now u
-        → device.now.ends ≡ Some ends
+        → device.now.ends ≡ Some groups.now.name
         → IsPartAt site.now u s part.now close.now
         → IsShape (sheets_at site.now u) (IsGateAt site.now u s) x) }
 {
-    let _ = ends;
     let loose = is_loose(site.rules, device.tb);
     let windows = close.rects();
     let on_bulk = bulk_in(alloc, site, device.tb, windows, loose)?;
     let around = Around {
-        ends: groups,
-        on_ends,
+        ends: groups.area,
+        on_ends: groups.on,
         on_gate,
         on_bulk: &on_bulk,
         loose,
@@ -146,9 +142,12 @@ fn beside_shape(
     let windows = close.rects();
     let groups = kept_in(alloc, site.design, site.layers, site.cell, ends, windows)?;
     if device.ts == ends {
-        return judged_shape(
-            alloc, site, device, ends, &groups, &groups, on_gate, part, close,
-        );
+        let same = Groups {
+            name: ends,
+            area: &groups,
+            on: &groups,
+        };
+        return judged_shape(alloc, site, device, &same, on_gate, part, close);
     }
     let on_ends = kept_in(
         alloc,
@@ -158,9 +157,12 @@ fn beside_shape(
         device.ts,
         windows,
     )?;
-    judged_shape(
-        alloc, site, device, ends, &groups, &on_ends, on_gate, part, close,
-    )
+    let both = Groups {
+        name: ends,
+        area: &groups,
+        on: &on_ends,
+    };
+    judged_shape(alloc, site, device, &both, on_gate, part, close)
 }
 
 // The shape of a region between two groups: a transistor's gate must lie on its conductor; of a

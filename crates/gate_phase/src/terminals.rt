@@ -16,6 +16,17 @@ use net_walk::Cells;
 use plain_netlist::DeviceKind;
 use std::alloc::{AllocError, Global};
 
+/// What the nets of terminals are looked up by: the nets of cells, one of the cells, a device rule,
+/// the globals at the rule's ends and at its bulk, and how many globals there are.
+#[derive(Clone, Copy)]
+pub struct Terminals<'a, C> {
+    pub cells: &'a C,
+    pub cell: u32,
+    pub device: Device,
+    pub grounds: Grounds,
+    pub globals: u32,
+}
+
 // The net of a square that some net holds.
 fn held_net<C: Cells>(
     alloc: Global,
@@ -43,24 +54,22 @@ fn held_net<C: Cells>(
 // least square on it.
 fn region_net<C: Cells>(
     alloc: Global,
-    cells: &C,
-    cell: u32,
+    at: &Terminals<'_, C>,
     conductor: u32,
     global: Option<u32>,
-    globals: u32,
     least: Square,
 ) -> Result<u32, AllocError>
-    requires globals { globals ≡ length (C.wiring cells.now).globals }
-    requires nets { AreNetsUnder (C.design cells.now) (C.wiring cells.now) (C.tables cells.now)
-        cell }
-    requires held { IsHeldRegion (C.design cells.now) (C.wiring cells.now) (C.tables cells.now) cell
-        conductor least global }
-    ensures { IfOk result (λ x. NetHolds (C.design cells.now) (C.tables cells.now) cell x
-        (region_node conductor least global)) }
+    requires globals { at.now.globals ≡ length (C.wiring at.now.cells.now).globals }
+    requires nets { AreNetsUnder (C.design at.now.cells.now) (C.wiring at.now.cells.now)
+        (C.tables at.now.cells.now) at.now.cell }
+    requires held { IsHeldRegion (C.design at.now.cells.now) (C.wiring at.now.cells.now)
+        (C.tables at.now.cells.now) at.now.cell conductor least global }
+    ensures { IfOk result (λ x. NetHolds (C.design at.now.cells.now) (C.tables at.now.cells.now)
+        at.now.cell x (region_node conductor least global)) }
 {
     match global {
-        Some(number) => Ok(net_of_global(cells, cell, globals, number)),
-        None => held_net(alloc, cells, cell, conductor, least),
+        Some(number) => Ok(net_of_global(at.cells, at.cell, at.globals, number)),
+        None => held_net(alloc, at.cells, at.cell, conductor, least),
     }
 }
 
@@ -70,37 +79,36 @@ fn region_net<C: Cells>(
 /// global, or else of the region's least square.
 pub fn terminal_nets<C: Cells>(
     alloc: Global,
-    cells: &C,
-    cell: u32,
-    device: &Device,
-    grounds: Grounds,
-    globals: u32,
+    at: &Terminals<'_, C>,
     least: Square,
     form: &GateForm,
 ) -> Result<[u32; 4], AllocError>
-    requires globals { globals ≡ length (C.wiring cells.now).globals }
-    requires nets { AreNetsUnder (C.design cells.now) (C.wiring cells.now) (C.tables cells.now)
-        cell }
-    requires held { AreHeld (C.design cells.now) (C.wiring cells.now) (C.tables cells.now)
-        device.now cell (grounds_seen grounds) least form.now }
-    ensures { IfOk result (HoldNodes (C.design cells.now) (C.tables cells.now) device.now cell
-        (grounds_seen grounds) least form.now) }
+    requires globals { at.now.globals ≡ length (C.wiring at.now.cells.now).globals }
+    requires nets { AreNetsUnder (C.design at.now.cells.now) (C.wiring at.now.cells.now)
+        (C.tables at.now.cells.now) at.now.cell }
+    requires held { AreHeld (C.design at.now.cells.now) (C.wiring at.now.cells.now)
+        (C.tables at.now.cells.now) at.now.device at.now.cell (grounds_seen at.now.grounds) least
+        form.now }
+    ensures { IfOk result (HoldNodes (C.design at.now.cells.now) (C.tables at.now.cells.now)
+        at.now.device at.now.cell (grounds_seen at.now.grounds) least form.now) }
 {
-    let bulk = region_net(alloc, cells, cell, device.tb, grounds.bulk, globals, least)?;
+    let cells = at.cells;
+    let device = &at.device;
+    let bulk = region_net(alloc, at, device.tb, at.grounds.bulk, least)?;
     match device.kind {
         DeviceKind::Mos4 => {
-            let drain = held_net(alloc, cells, cell, device.ts, form.drain)?;
-            let gate = held_net(alloc, cells, cell, device.tg, least)?;
-            let source = held_net(alloc, cells, cell, device.ts, form.source)?;
+            let drain = held_net(alloc, cells, at.cell, device.ts, form.drain)?;
+            let gate = held_net(alloc, cells, at.cell, device.tg, least)?;
+            let source = held_net(alloc, cells, at.cell, device.ts, form.source)?;
             Ok([drain, gate, source, bulk])
         }
         DeviceKind::ResistorWithBulk => {
-            let second = held_net(alloc, cells, cell, device.ts, form.drain)?;
-            let first = held_net(alloc, cells, cell, device.ts, form.source)?;
+            let second = held_net(alloc, cells, at.cell, device.ts, form.drain)?;
+            let first = held_net(alloc, cells, at.cell, device.ts, form.source)?;
             Ok([second, bulk, first, 0])
         }
         DeviceKind::Diode => {
-            let anode = region_net(alloc, cells, cell, device.ts, grounds.ends, globals, least)?;
+            let anode = region_net(alloc, at, device.ts, at.grounds.ends, least)?;
             Ok([anode, bulk, 0, 0])
         }
     }

@@ -16,6 +16,7 @@ use crate::bulks::{Grounds, device_grounds};
 use crate::device::device_count;
 use crate::indexes::IndexedLayers;
 use crate::list::{cell_gates, push_all};
+use crate::site::Site;
 use cell_graph::Design;
 use deep_tables::{CellNets, Gate, GateKey, Layers, Nets, Zones, free_graph};
 use job_board::Crew;
@@ -153,19 +154,15 @@ impl<'a> DeviceWork<'a> {
         let rules = wired.rules();
         let globals = wired.wires().globals;
         let cells = wired.below(&self.nets);
-        cell_gates(
-            alloc,
+        design.sound();
+        let site = Site {
             design,
             rules,
-            self.zones,
-            &self.layers,
-            &cells,
+            zones: self.zones,
+            layers: &self.layers,
             cell,
-            from,
-            to,
-            &self.grounds,
-            globals,
-        )
+        };
+        cell_gates(alloc, &site, &cells, from, to, &self.grounds, globals)
     }
 
     // Whether a cell has so many items that a further thread costs less than it gives.

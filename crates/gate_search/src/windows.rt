@@ -7,8 +7,8 @@ ghost use Rattle.gate_search.specs.Gather.{AreMet, IsGathered, IsGatheredAround}
 ghost use Rattle.rect_sets.specs.Near.{IsNearSet};
 
 use gate_shapes::{grown, least};
-use geo_base::Rect;
-use rect_sets::{RectSet, Rule, combine_rects};
+use geo_base::{Op, Rect};
+use rect_sets::{RectSet, combine_rects};
 use std::alloc::{AllocError, Global};
 
 /// A layer that is known only window by window.
@@ -58,8 +58,8 @@ pub fn gather<L: GateLayer>(alloc: Global, layer: &L, seeds: &[Rect]) -> Result<
     'rounds: while least(&fresh).is_some() {
         let windows = grown(alloc, fresh.rects())?;
         let next = around(alloc, layer, &windows)?;
-        found = combine_rects(alloc, found.rects(), fresh.rects(), Rule::Or)?;
-        fresh = combine_rects(alloc, next.rects(), found.rects(), Rule::Not)?;
+        found = combine_rects(alloc, found.rects(), fresh.rects(), Op::Or)?;
+        fresh = combine_rects(alloc, next.rects(), found.rects(), Op::Not)?;
     }
     Ok(found)
 }

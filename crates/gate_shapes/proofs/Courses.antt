@@ -1,6 +1,5 @@
 -- What the tests on sides tell, and the two ways in which a rectangle lies between two others.
-use Rattle.std.proofs.Common.{◌≡◌, ◌↔◌, inl, inr, ◌<◌, ℤ, ◌≤ℤ◌, ◌<ℤ◌, int_le, List, [], ◌∷◌, Bool, true, false, Result, Ok, Err, Option, Some, None, length, slice_index_or, refl, sym, ◌∙◌, subst, arith}
-use Rattle.base_laws.proofs.Tests.{le_from}
+use Rattle.std.proofs.Common.{◌≡◌, ◌↔◌, inl, inr, ◌<◌, ℤ, ◌≤ℤ◌, ◌<ℤ◌, List, [], ◌∷◌, Bool, true, false, Result, Ok, Err, Option, Some, None, length, slice_index_or, refl, sym, ◌∙◌, subst, arith}
 use Rattle.std.proofs.lemmas.Int.{ints}
 use Rattle.std.proofs.lemmas.Bool.{false≢true, or_left, or_right, or_cases, and_parts}
 use Rattle.std.proofs.lemmas.Bool.Decides.{Decides-int_eq}
@@ -8,14 +7,16 @@ use Rattle.std.specs.Ordering.{int_eq}
 use Rattle.std.specs.declared.alloc.AllocError.{AllocError}
 use Rattle.std.specs.Prelude.{IfOk, IfSome}
 use Rattle.std.specs.List.{All}
-use Rattle.geo_base.specs.Rects.{has, IsRect}
+use Rattle.geo_base.specs.Rects.{has, is_inside, IsRect}
+use Rattle.geo_base.proofs.Meeting.{inside_from}
+use Rattle.geo_base.proofs.Meeting.{inside_has as within_has}
 use Rattle.geo_base.specs.declared.shapes.Rect.{Rect}
 use Rattle.geo_base.specs.declared.shapes.Square.{Square}
 use Rattle.rect_sets.specs.Rects.{covers}
 use Rattle.rect_sets.proofs.Splitting.{IsInside}
 use Rattle.flat_layout.specs.Parts.{AllOn, InSideOf}
 use Rattle.flat_layout.specs.Plane.{SharesEdge}
-use Rattle.gate_shapes.specs.Plain.{beyond, has_all, is_held, is_left, is_under, is_level, is_upright, same_rows, same_columns, spans_across, spans_up, IsPlainForm}
+use Rattle.gate_shapes.specs.Plain.{beyond, is_held, is_left, is_under, is_level, is_upright, same_rows, same_columns, IsPlainForm}
 use Rattle.gate_shapes.specs.Sets.{in_set}
 use Rattle.gate_shapes.specs.Shapes.{IsGood, sheets_of}
 use Rattle.gate_shapes.specs.declared.border.Side.TheVariants.{Right, Up, Left, Down}
@@ -48,21 +49,11 @@ under_from a b e =
     let q = and_parts (int_eq a.x1 b.x1) (int_eq a.x2 b.x2) p.1 in
     record { meets = (Decides-int_eq a.y2 b.y1).0 p.0; low = (Decides-int_eq a.x1 b.x1).0 q.0; high = (Decides-int_eq a.x2 b.x2).0 q.1 }
 
-held_in : (r outer : Rect) (q : Square) → has_all r outer ≡ true → IsInside r q → IsInside outer q
-held_in r outer q e h =
-    let p = and_parts (spans_across r outer) (spans_up r outer) e in
-    let x = and_parts (int_le outer.x1 r.x1) (int_le r.x2 outer.x2) p.0 in
-    let y = and_parts (int_le outer.y1 r.y1) (int_le r.y2 outer.y2) p.1 in
-    let a = le_from outer.x1 r.x1 x.0 in let b = le_from r.x2 outer.x2 x.1 in
-    let c = le_from outer.y1 r.y1 y.0 in let d = le_from r.y2 outer.y2 y.1 in
-    let x1 = h.x1 in let x2 = h.x2 in let y1 = h.y1 in let y2 = h.y2 in
-    record { x1 = omega (arith, ints); x2 = omega (arith, ints); y1 = omega (arith, ints); y2 = omega (arith, ints) }
-
 -- one rectangle of the list that has all of it
 pub held_on : (r : Rect) (rects : List Rect) → is_held r rects ≡ true → AllOn (in_set (r ∷ [])) (in_set rects)
 held_on r [] e q h = absurd (false≢true e)
-held_on r (outer ∷ rects) e q h = elim (or_cases (has_all r outer) (is_held r rects) e) [
-  | inl f ↦ or_left (has outer q) (covers rects q) (inside_has outer q (held_in r outer q f (one_has r q h)))
+held_on r (outer ∷ rects) e q h = elim (or_cases (is_inside r outer) (is_held r rects) e) [
+  | inl f ↦ or_left (has outer q) (covers rects q) (within_has r outer q (inside_from r outer f) (inside_has r q (one_has r q h)))
   | inr f ↦ or_right (has outer q) (covers rects q) (held_on r rects f q h)
 ]
 

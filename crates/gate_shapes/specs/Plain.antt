@@ -1,7 +1,8 @@
 -- A rectangle between two others, as most gates are.
-use Rattle.std.specs.Prelude.{◌≡◌, ℤ, pos, int_le, ◌+ℤ◌, ◌-ℤ◌, ◌+◌, Bool, true, ◌&&◌, List, [], ◌∷◌}
+use Rattle.std.specs.Prelude.{◌≡◌, ℤ, pos, ◌+ℤ◌, ◌-ℤ◌, ◌+◌, Bool, true, ◌&&◌, List, [], ◌∷◌}
 use Rattle.std.specs.List.{list_any}
 use Rattle.std.specs.Ordering.{int_eq}
+use Rattle.geo_base.specs.Rects.{is_inside}
 use Rattle.geo_base.specs.declared.shapes.Rect.{Rect}
 use Rattle.geo_base.specs.declared.shapes.Square.{Square}
 use Rattle.flat_layout.specs.Parts.{AllOn}
@@ -42,21 +43,9 @@ beyond Down r = record { x1 = r.x1; y1 = r.y1 -ℤ pos 1; x2 = r.x2; y2 = r.y1 }
 abbrev pub corner : Rect → Square
 corner r = record { x = r.x1; y = r.y1 }
 
--- the first rectangle's columns are among the second one's
-abbrev pub spans_across : Rect → Rect → Bool
-spans_across r outer = int_le outer.x1 r.x1 && int_le r.x2 outer.x2
-
--- and its rows
-abbrev pub spans_up : Rect → Rect → Bool
-spans_up r outer = int_le outer.y1 r.y1 && int_le r.y2 outer.y2
-
--- the second rectangle has all of the first
-abbrev pub has_all : Rect → Rect → Bool
-has_all r outer = spans_across r outer && spans_up r outer
-
 -- one of the list has all of it
 abbrev pub is_held : Rect → List Rect → Bool
-is_held r rects = list_any (has_all r) rects
+is_held r rects = list_any (is_inside r) rects
 
 -- a rectangle and its two ends lie on their conductors
 pub record LieOn (r source drain : Rect) (on_ends on_gate on_bulk : List Rect)

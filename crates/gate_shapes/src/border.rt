@@ -13,8 +13,8 @@ ghost use Rattle.gate_shapes.specs.Sets.{in_set};
 ghost use Rattle.gate_shapes.specs.Borders.{step_x, step_y, behind, grown_rect, IsFlank, IsBorder};
 
 use crate::area::{count, plus};
-use geo_base::{Motion, Rect, Turn};
-use rect_sets::{RectSet, Rule, combine_rects};
+use geo_base::{Motion, Op, Rect, Turn};
+use rect_sets::{RectSet, combine_rects};
 use std::alloc::{AllocError, Global};
 
 /// The side of a square on which an edge lies.
@@ -63,7 +63,7 @@ fn beside(alloc: Global, part: &RectSet, side: Side) -> Result<RectSet, AllocErr
         dy: side.y(),
     };
     let image = part.moved(alloc, &step)?;
-    let out = combine_rects(alloc, image.rects(), part.rects(), Rule::Not)?;
+    let out = combine_rects(alloc, image.rects(), part.rects(), Op::Not)?;
     Ok(out)
 }
 
@@ -81,8 +81,8 @@ fn edges_on(alloc: Global, part: &RectSet, ends: &RectSet, side: Side) -> Result
     ensures { IfOk result (λ f. IsFlank part.now ends.now side f) }
 {
     let out = beside(alloc, part, side)?;
-    let touched = combine_rects(alloc, out.rects(), ends.rects(), Rule::And)?;
-    let others = combine_rects(alloc, out.rects(), ends.rects(), Rule::Not)?;
+    let touched = combine_rects(alloc, out.rects(), ends.rects(), Op::And)?;
+    let others = combine_rects(alloc, out.rects(), ends.rects(), Op::Not)?;
     let wide = count(&touched)?;
     let long = count(&others)?;
     Ok(Flank {
@@ -110,9 +110,9 @@ fn joined(
     ensures { IfOk result (λ r. (q : Square)
         → covers r q ≡ (((covers a.now q || covers b.now q) || covers c.now q) || covers d.now q)) }
 {
-    let two = combine_rects(alloc, a.rects(), b.rects(), Rule::Or)?;
-    let three = combine_rects(alloc, two.rects(), c.rects(), Rule::Or)?;
-    let four = combine_rects(alloc, three.rects(), d.rects(), Rule::Or)?;
+    let two = combine_rects(alloc, a.rects(), b.rects(), Op::Or)?;
+    let three = combine_rects(alloc, two.rects(), c.rects(), Op::Or)?;
+    let four = combine_rects(alloc, three.rects(), d.rects(), Op::Or)?;
     Ok(four)
 }
 
@@ -173,7 +173,7 @@ pub fn sides_of(alloc: Global, part: &RectSet, ends: &RectSet) -> Result<RectSet
         ↔ InSideOf (in_set part.now) (in_set ends.now) q) }
 {
     let around = grown(alloc, part.rects())?;
-    let near = combine_rects(alloc, &around, ends.rects(), Rule::And)?;
-    let sides = combine_rects(alloc, near.rects(), part.rects(), Rule::Not)?;
+    let near = combine_rects(alloc, &around, ends.rects(), Op::And)?;
+    let sides = combine_rects(alloc, near.rects(), part.rects(), Op::Not)?;
     Ok(sides)
 }

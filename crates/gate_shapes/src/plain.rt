@@ -5,9 +5,8 @@ ghost use Rattle.std.specs.Prelude.{◌≡◌, true, IfOk, IfSome};
 ghost use Rattle.geo_base.specs.Near.{IsNearRect};
 ghost use Rattle.rect_sets.specs.Near.{IsNearSet};
 ghost use Rattle.gate_shapes.specs.Sets.{area_of, in_set};
-ghost use Rattle.gate_shapes.specs.Plain.{beyond, corner, has_all, is_held, is_left, is_level};
-ghost use Rattle.gate_shapes.specs.Plain.{is_under, is_upright, same_columns, same_rows};
-ghost use Rattle.gate_shapes.specs.Plain.{spans_across, spans_up};
+ghost use Rattle.gate_shapes.specs.Plain.{beyond, corner, is_held, is_left, is_level, is_under};
+ghost use Rattle.gate_shapes.specs.Plain.{is_upright, same_columns, same_rows};
 ghost use Rattle.gate_shapes.specs.Plain.{IsPlainForm, LieOn};
 ghost use Rattle.gate_shapes.specs.Shapes.{IsGood, sheets_of};
 
@@ -96,29 +95,11 @@ fn corner(rect: &Rect) -> Square
     }
 }
 
-fn spans_across(outer: &Rect, rect: &Rect) -> bool
-    ensures { result ≡ spans_across rect.now outer.now }
-{
-    outer.x1 <= rect.x1 && rect.x2 <= outer.x2
-}
-
-fn spans_up(outer: &Rect, rect: &Rect) -> bool
-    ensures { result ≡ spans_up rect.now outer.now }
-{
-    outer.y1 <= rect.y1 && rect.y2 <= outer.y2
-}
-
-fn has_all(outer: &Rect, rect: &Rect) -> bool
-    ensures { result ≡ has_all rect.now outer.now }
-{
-    spans_across(outer, rect) && spans_up(outer, rect)
-}
-
 // Whether one rectangle of the set has all of this one.
 fn is_held(rect: &Rect, set: &RectSet) -> bool
     ensures { result ≡ is_held rect.now set.now }
 {
-    set.rects().iter().any(|outer| has_all(outer, rect))
+    set.rects().iter().any(|outer| rect.is_inside(outer))
 }
 
 // Whether a rectangle and its ends lie on their conductors, each in one rectangle there.

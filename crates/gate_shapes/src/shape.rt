@@ -12,8 +12,8 @@ use crate::border::{border_of, sides_of};
 use crate::pieces::{least, parts};
 use crate::plain::plain_form;
 use flat_layout::GateCause;
-use geo_base::{Rect, Square};
-use rect_sets::{RectSet, Rule, combine_rects};
+use geo_base::{Op, Rect, Square};
+use rect_sets::{RectSet, combine_rects};
 use std::alloc::{AllocError, Global};
 use tile_index::TileIndex;
 
@@ -37,7 +37,7 @@ pub enum GateShape {
 pub fn is_on(alloc: Global, set: &RectSet, other: &RectSet) -> Result<bool, AllocError>
     ensures { IfOk result (λ b. TellsOn set.now other.now b) }
 {
-    let off = combine_rects(alloc, set.rects(), other.rects(), Rule::Not)?;
+    let off = combine_rects(alloc, set.rects(), other.rects(), Op::Not)?;
     match least(&off) {
         Some(_) => Ok(false),
         None => Ok(true),

@@ -11,10 +11,11 @@ use Rattle.geo_base.specs.declared.shapes.Rect.{Rect}
 use Rattle.geo_base.specs.declared.layer.LayerKey.{LayerKey}
 use Rattle.geo_base.specs.Near.{IsLong, IsLongPoint, IsLongRect}
 use Rattle.geo_base.specs.Outlines.{IsClosed, last_from}
+use Rattle.geo_base.specs.Rects.{bounding_box, rect_at, is_rect}
 use Rattle.gds_records.specs.Records.{Rec, Records, NoRecords, ◌▸◌}
 use Rattle.gds_records.specs.Kinds.{BOUNDARY, PATH, BOX, WIDTH, XY, ENDEL, ENDSTR, PATHTYPE, BGNEXTN, ENDEXTN}
 use Rattle.gds_elements.specs.Bounds.{is_start, is_line, is_bound}
-use Rattle.gds_elements.specs.Data.{number, coordinate, long, origin, points_of, first_of, last_of, is_closed, widened, hull, has_area}
+use Rattle.gds_elements.specs.Data.{number, coordinate, long, origin, points_of, first_of, last_of, is_closed, hull}
 use Rattle.gds_elements.specs.Meaning.{Boundary, Path, Box, Shape, Cell, Library, opened, last_kind, columns_of, rows_of, part, is_cell_bound, key_of, half_of, beyond, box_form, shapes_by, gathered, open_shapes, open_points, shapes_of, open_cells, cells_of}
 use Rattle.gds_elements.specs.Faults.{are_complete, outline_fault, points_fault, content_fault, Passes}
 use Rattle.gds_elements.proofs.SamePoints.{same_point}
@@ -68,10 +69,10 @@ min_long a b f g = record { low = grind (arith, ints, f.low, g.low); high = grin
 max_long : (a b : ℤ) → IsLong a → IsLong b → IsLong (int_max a b)
 max_long a b f g = record { low = grind (arith, ints, f.low, g.low); high = grind (arith, ints, f.high, g.high) }
 
-widened_long : (r : Rect) (ps : List Point) → IsLongRect r → ByRecursion IsLongPoint ps → IsLongRect (fold (λ r q. widened r q) r ps)
+widened_long : (r : Rect) (ps : List Point) → IsLongRect r → ByRecursion IsLongPoint ps → IsLongRect (fold (λ r q. bounding_box r (rect_at q)) r ps)
 widened_long r [] f h = f
 widened_long r (p ∷ ps) f h =
-    widened_long (widened r p) ps
+    widened_long (bounding_box r (rect_at p)) ps
     (record { x1 = min_long _ _ f.x1 h.0.x; y1 = min_long _ _ f.y1 h.0.y; x2 = max_long _ _ f.x2 h.0.x; y2 = max_long _ _ f.y2 h.0.y }) h.1
 
 first_long : (ps : List Point) → ByRecursion IsLongPoint ps → IsLongPoint (first_of ps)
@@ -184,7 +185,7 @@ beyond_long path_type half extension h g = by_test (path_type == 2) (path_type =
     by_test false false = zero_long
 
 box_fillable : (points : List Point) → IsClosed points → ByRecursion IsLongPoint points → IsFillable (box_form points)
-box_fillable points c h = by_test (has_area (hull points))
+box_fillable points c h = by_test (is_rect (hull points))
   where
     by_test : (b : Bool) → IsFillable (cond b (Box (hull points)) (Boundary points))
     by_test true = hull_long points h

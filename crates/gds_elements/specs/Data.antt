@@ -1,15 +1,16 @@
 -- What the data of a record says: numbers, strings, points and eight-byte reals (GDSII Stream
 -- Format, Release 6, data types).
 use Rattle.std.specs.Prelude.{ℕ, zero, suc, ◌+◌, ◌-◌, ◌%◌, ℤ, pos, ◌-ℤ◌, Bool, true}
-use Rattle.std.specs.Prelude.{false, ◌==◌, ◌||◌, ◌&&◌, not, nat_lt, nat_le, int_lt, int_div}
+use Rattle.std.specs.Prelude.{false, ◌==◌, ◌||◌, ◌&&◌, not, nat_lt, nat_le, int_div}
 use Rattle.std.specs.Prelude.{unsigned_abs, List, [], ◌∷◌, length, take, drop, replicate}
 use Rattle.std.specs.Prelude.{slice_index, get_or, fold, Option, Some, None, if◌then◌else◌}
 use Rattle.std.specs.List.{list_all, list_any, zip}
 use Rattle.std.specs.Ordering.{int_eq}
-use Rattle.std.specs.Int.{w16, w32, from_be_bytes, cast_signed, int_min, int_max}
+use Rattle.std.specs.Int.{w16, w32, from_be_bytes, cast_signed}
 use Rattle.fixed_num.specs.Real.{Real, is_unit, real_of}
 use Rattle.geo_base.specs.declared.shapes.Point.{Point}
 use Rattle.geo_base.specs.declared.shapes.Rect.{Rect}
+use Rattle.geo_base.specs.Rects.{bounding_box, rect_at}
 
 -- ---- numbers
 
@@ -103,26 +104,9 @@ last_of ps = get_or ps (length ps - 1) origin
 abbrev pub is_closed : List Point → Bool
 is_closed ps = is_same (first_of ps) (last_of ps)
 
--- a rectangle, and with a point more
-abbrev pub widened : Rect → Point → Rect
-widened r p = record {
-  x1 = int_min r.x1 p.x;
-  y1 = int_min r.y1 p.y;
-  x2 = int_max r.x2 p.x;
-  y2 = int_max r.y2 p.y;
-}
-
 -- from the least to the greatest coordinates
 abbrev pub hull : List Point → Rect
-hull ps = let p = first_of ps in fold (λ r q. widened r q) record {
-  x1 = p.x;
-  y1 = p.y;
-  x2 = p.x;
-  y2 = p.y;
-} ps
-
-abbrev pub has_area : Rect → Bool
-has_area r = int_lt r.x1 r.x2 && int_lt r.y1 r.y2
+hull ps = fold (λ r q. bounding_box r (rect_at q)) (rect_at (first_of ps)) ps
 
 -- ---- arrays: the three points' data
 

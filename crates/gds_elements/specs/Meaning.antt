@@ -14,9 +14,10 @@ use Rattle.gds_records.specs.Kinds.{HEADER, BGNLIB, LIBNAME, UNITS, BGNSTR, STRN
 use Rattle.gds_records.specs.Kinds.{BOUNDARY, PATH, SREF, AREF, TEXT, LAYER, DATATYPE, WIDTH, XY}
 use Rattle.gds_records.specs.Kinds.{ENDEL, SNAME, COLROW, TEXTTYPE, STRING, STRANS, ANGLE, PATHTYPE}
 use Rattle.gds_records.specs.Kinds.{BOX, BOXTYPE, BGNEXTN, ENDEXTN}
+use Rattle.geo_base.specs.Rects.{is_rect}
 use Rattle.gds_elements.specs.Bounds.{is_start, is_line, is_bound}
 use Rattle.gds_elements.specs.Data.{number, long, columns_in, rows_in, exactly, is_empty, trimmed}
-use Rattle.gds_elements.specs.Data.{origin, points_of, first_of, hull, has_area, side, step}
+use Rattle.gds_elements.specs.Data.{origin, points_of, first_of, hull, side, step}
 use Rattle.gds_elements.specs.Data.{real_in}
 use Rattle.fixed_num.specs.Real.{quarter_of}
 
@@ -135,7 +136,7 @@ path_form path_type width begin end points = let half = half_of width in Path po
 
 -- a box without area is the boundary of its points
 abbrev pub box_form : List Point → Form
-box_form points = if has_area (hull points) then Box (hull points) else Boundary points
+box_form points = if is_rect (hull points) then Box (hull points) else Boundary points
 
 -- the shape that an element is: of a boundary, a path or a box
 abbrev pub shapes_by : ℕ → LayerKey → ℕ → ℤ → ℤ → ℤ → List Point → List Shape

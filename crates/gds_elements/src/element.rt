@@ -12,7 +12,7 @@ ghost use Rattle.gds_elements.specs.Reading.{ref_seen, rec};
 use crate::corners::corners_of;
 use crate::data::{columns_in, long, number, quarter_of, rows_in, trimmed};
 use crate::library::{RawRef, ShapeForm};
-use crate::points::{has_area, hull, side, step};
+use crate::points::{hull, side, step};
 use gds_records::kinds;
 use geo_base::{LayerKey, Motion, Point, Turn};
 use net_names::Name;
@@ -257,7 +257,7 @@ pub(crate) fn box_form(points: Vec<Point>) -> ShapeForm
     ensures { form_seen result ≡ box_form points.items }
 {
     let rect = hull(&points);
-    if has_area(rect) {
+    if rect.is_rect() {
         ShapeForm::Box(rect)
     } else {
         ShapeForm::Boundary(points)

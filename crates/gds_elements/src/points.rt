@@ -1,10 +1,10 @@
 //! Points in the data of records.
 
 ghost use Rattle.std.specs.Prelude.{◌≡◌, ◌≤◌, ◌<◌, ◌+◌, ◌++◌, ◌-ℤ◌, true, length, IfOk};
-ghost use Rattle.std.specs.Int.{int_min, int_max};
-ghost use Rattle.gds_elements.specs.Data.{coordinate, first_of, first_point, goes_into, has_area};
+ghost use Rattle.geo_base.specs.Rects.{bounding_box, rect_at};
+ghost use Rattle.gds_elements.specs.Data.{coordinate, first_of, first_point, goes_into};
 ghost use Rattle.gds_elements.specs.Data.{has_length, hull, is_closed, is_level, is_same};
-ghost use Rattle.gds_elements.specs.Data.{is_straight, last_of, points_of, side, step, widened};
+ghost use Rattle.gds_elements.specs.Data.{is_straight, last_of, points_of, side, step};
 
 use crate::data::coordinate;
 use geo_base::{Point, Rect};
@@ -106,50 +106,20 @@ pub(crate) fn is_closed(points: &[Point]) -> bool
     is_same(points[0], points[points.len() - 1])
 }
 
-fn least(a: i64, b: i64) -> i64
-    ensures { result ≡ int_min a b }
+fn with_point(r: Rect, p: Point) -> Rect
+    ensures { result ≡ bounding_box r (rect_at p) }
 {
-    a.min(b)
-}
-
-fn greatest(a: i64, b: i64) -> i64
-    ensures { result ≡ int_max a b }
-{
-    a.max(b)
-}
-
-fn widened(r: Rect, p: Point) -> Rect
-    ensures { result ≡ widened r p }
-{
-    Rect {
-        x1: least(r.x1, p.x),
-        y1: least(r.y1, p.y),
-        x2: greatest(r.x2, p.x),
-        y2: greatest(r.y2, p.y),
-    }
+    r.bounding_box(&Rect::at(p))
 }
 
 /// The rectangle from the least to the greatest coordinates of the points.
 pub(crate) fn hull(points: &[Point]) -> Rect
     ensures { result ≡ hull points.now }
 {
-    let first = first_of(points);
-    let corner = Rect {
-        x1: first.x,
-        y1: first.y,
-        x2: first.x,
-        y2: first.y,
-    };
-    points
-        .iter()
-        .fold(corner, |rect, point| widened(rect, *point))
-}
-
-/// Whether the rectangle holds a square.
-pub(crate) fn has_area(r: Rect) -> bool
-    ensures { result ≡ has_area r }
-{
-    r.x1 < r.x2 && r.y1 < r.y2
+    points.iter().fold(
+        Rect::at(first_of(points)),
+        |hull, point| with_point(hull, *point),
+    )
 }
 
 /// How far the number at the one place is above that at the other.

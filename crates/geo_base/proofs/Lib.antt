@@ -2,3 +2,4 @@ pub mod Turning
 pub mod Moving
 pub mod Images
 pub mod Spans
+pub mod Meeting

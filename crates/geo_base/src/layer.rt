@@ -27,3 +27,20 @@ pub enum Op {
     Not,
     Xor,
 }
+
+impl Op {
+    ghost use Rattle.std.specs.Prelude.{◌≡◌};
+    ghost use Rattle.geo_base.specs.Layers.{combined};
+
+    /// What it says of one square, given whether each of two sets has it.
+    pub fn holds(self, first: bool, second: bool) -> bool
+        ensures { result ≡ combined self first second }
+    {
+        match self {
+            Op::And => first && second,
+            Op::Or => first || second,
+            Op::Not => first && !second,
+            Op::Xor => first != second,
+        }
+    }
+}

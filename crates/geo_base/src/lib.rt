@@ -1,5 +1,5 @@
-//! The plane of a layout: points, unit squares, rectangles, and the motions that take them to one
-//! another.
+//! The plane of a layout: points, unit squares, rectangles (a bounding box is one), and the motions
+//! that take them to one another: transformations of placements, in GDSII mirror, angle and origin.
 #![tactic(auto)]
 
 mod layer;
@@ -8,4 +8,4 @@ mod shapes;
 
 pub use layer::{LayerKey, Op};
 pub use motion::{Motion, Turn, image_laws};
-pub use shapes::{Point, REACH, Rect, Square};
+pub use shapes::{Point, REACH, Rect, Square, rect_laws};

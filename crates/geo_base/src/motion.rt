@@ -192,12 +192,7 @@ impl Motion {
     {
         let p = self.point(Point { x: r.x1, y: r.y1 });
         let q = self.point(Point { x: r.x2, y: r.y2 });
-        Rect {
-            x1: p.x.min(q.x),
-            y1: p.y.min(q.y),
-            x2: p.x.max(q.x),
-            y2: p.y.max(q.y),
-        }
+        Rect::between(p, q)
     }
 
     /// This motion first, then `outer`. Its shift may be twice as far as theirs.

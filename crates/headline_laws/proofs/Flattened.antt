@@ -15,7 +15,7 @@ use Rattle.plain_netlist.proofs.Rows.{at_joined, at_terminal, ends_by, over_alik
 use Rattle.flat_layout.specs.Circuits.{IsCircuitCell}
 use Rattle.flat_layout.specs.Expanded.{CircuitTables, IsGateOfDevice, IsDeviceOf, AreTablesRight, IsFlatNetlist, ShowsNode}
 use Rattle.flat_layout.specs.Gates.{Rule, geometry, sizes_of, Edge, Sides, TwoGroups, Region, Form, Beside, Alone, form_of, sheets, IsStep, InGate, InSide, InOneGroup, IsRegionNode, IsGroupNode, IsOtherNode, IsGoodGate, IsTerminalNode}
-use Rattle.flat_layout.specs.Parts.{IsGoodForm, IsGoodPart}
+use Rattle.flat_layout.specs.Parts.{Edges, IsGoodForm, IsGoodPart}
 use Rattle.flat_layout.specs.GateTables.{GateSquare, GoodGate}
 use Rattle.flat_layout.specs.Layout.{Place, Design, IsPlaced, IsReached}
 use Rattle.flat_layout.specs.Nets.{Tables}
@@ -26,10 +26,10 @@ use Rattle.flat_laws.proofs.Count.{good_in, one_sizes}
 use Rattle.flat_laws.proofs.Same.{in_same, group_same, good_same}
 use Rattle.flat_laws.proofs.Flat.{flat_netlist as flat_law, region_flat}
 use Rattle.flat_laws.proofs.Once.{gate_self, gate_between, gate_on, gate_back}
+use Rattle.flat_laws.proofs.Joints.{adjacent_back}
 use Rattle.flat_laws.proofs.OneNet.{link_back, regions}
 use Rattle.flat_laws.proofs.Paths.{same_place}
 use Rattle.flat_laws.proofs.Planned.{planned}
-use Rattle.flat_laws.proofs.Squares.{edge_back}
 use Rattle.flat_laws.proofs.Terminals.{terminals}
 use Rattle.headline_laws.proofs.Chosen.{chosen, chosen_over}
 use Rattle.headline_laws.specs.FlatNetlist.{AreOneGate, FlatCorrespondsLaw, flat_netlist, IsFlatDevice, IsFlatGateOf, IsFlatRegionOf, TopCircuitLaw}
@@ -50,16 +50,13 @@ one_gate d g (c ∷ cs) cell i r v s q (j, p, listed, placed, x, carries, here) 
     let at : moved_square p'.motion x ≡ s = subst (λ (m : Place). moved_square m.motion x ≡ s) place here in
     (below.0, sym at ∙ (ap (λ y. moved_square p'.motion y) below.1 ∙ here'))
 
-pub side_back : (d : Design) (w : Wiring) (u : Rule) (cell : ℕ) (s a b : Square) → IsStep (InSide d w u cell s) a b → IsStep (InSide d w u cell s) b a
-side_back d w u cell s a b h = record { from = h.to; to = h.from; edge = edge_back a b h.edge }
-
 -- the two groups of a gate, named twice: in one order, or in the other
 module _ (d : Design) (w : Wiring) (u : Rule) (cell : ℕ) (s : Square) where
   abbrev R : Square → Square → Type 0
   R = InOneGroup d w u cell s
 
   r_back : (a b : Square) → R a b → R b a
-  r_back a b h = back (IsStep (InSide d w u cell s)) (side_back d w u cell s) a b h
+  r_back a b h = back (IsStep (InSide d w u cell s)) (adjacent_back Edges (InSide d w u cell s)) a b h
 
   r_both : (a b c : Square) → R a b → R b c → R a c
   r_both a b c h k = both (IsStep (InSide d w u cell s)) a b c h k

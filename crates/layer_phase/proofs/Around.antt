@@ -6,7 +6,7 @@ use Rattle.std.specs.List.{All}
 use Rattle.std.proofs.lemmas.Int.{ints}
 use Rattle.std.proofs.lemmas.List.Elements.{All-nil, All-cons, All-head, All-tail}
 use Rattle.geo_base.specs.Near.{IsWithin}
-use Rattle.geo_base.specs.Rects.{has, IsRect}
+use Rattle.geo_base.specs.Rects.{has, IsRect, grown}
 use Rattle.geo_base.specs.declared.shapes.Rect.{Rect}
 use Rattle.geo_base.specs.declared.shapes.Square.{Square}
 use Rattle.rect_sets.specs.Rects.{covers, IsCanonical}
@@ -14,7 +14,6 @@ use Rattle.rect_sets.proofs.Unique.{all_rects, rect_of}
 use Rattle.flat_layout.specs.Plane.{AreWithin, IsReachedBy}
 use Rattle.flat_laws.proofs.Moves.{within_back}
 use Rattle.sized_layers.specs.Sizes.{IsSetWithin}
-use Rattle.cell_graph.specs.Grown.{grown}
 use Rattle.cell_graph.specs.Linked.{IsRectWithin}
 use Rattle.cell_graph.proofs.Bridge.{has_in}
 use Rattle.cell_graph.proofs.Growing.{grown_none, near_rect, within_rect}

@@ -13,7 +13,7 @@ use Rattle.geo_base.specs.declared.layer.Op.TheVariants.{And, Or, Not, Xor}
 use Rattle.geo_base.specs.declared.shapes.Rect.{Rect}
 use Rattle.geo_base.specs.declared.shapes.Square.{Square}
 use Rattle.rect_sets.specs.Rects.{covers}
-use Rattle.edge_boolean.specs.Ops.{operated}
+use Rattle.geo_base.specs.Layers.{combined}
 use Rattle.flat_layout.specs.Layers.{Formula, Input, Empty, Binary, Sized, inputs, reach, InFlat, Combines}
 use Rattle.flat_layout.specs.Layout.{InFlatInput, Some_of}
 use Rattle.flat_layout.specs.Plane.{AreWithin, IsSized}
@@ -32,7 +32,7 @@ use Rattle.layer_phase.specs.Names.{AreFlats, AreLocals, IsFlatIn}
 use Rattle.layer_phase.proofs.Around.{wider_set}
 
 -- one operator on squares among those looked at
-op_to : (op : Op) (L A B : Type 0) (a b : Bool) → (a ≡ true → L × A) → (L × A → a ≡ true) → (b ≡ true → L × B) → (L × B → b ≡ true) → operated op a b ≡ true → L × Combines op A B
+op_to : (op : Op) (L A B : Type 0) (a b : Bool) → (a ≡ true → L × A) → (L × A → a ≡ true) → (b ≡ true → L × B) → (L × B → b ≡ true) → combined op a b ≡ true → L × Combines op A B
 op_to And L A B true true fa ga fb gb e = ((fa refl).0, ((fa refl).1, (fb refl).1))
 op_to And L A B true false fa ga fb gb e = absurd (let z : ⊥ = cc in z)
 op_to And L A B false b fa ga fb gb e = absurd (let z : ⊥ = cc in z)
@@ -47,7 +47,7 @@ op_to Xor L A B true false fa ga fb gb e = ((fa refl).0, inl ((fa refl).1, λ h.
 op_to Xor L A B false true fa ga fb gb e = ((fb refl).0, inr ((fb refl).1, λ h. let f : false ≡ true = ga ((fb refl).0, h) in let z : ⊥ = cc in z))
 op_to Xor L A B false false fa ga fb gb e = absurd (let z : ⊥ = cc in z)
 
-op_from : (op : Op) (L A B : Type 0) (a b : Bool) → (a ≡ true → L × A) → (L × A → a ≡ true) → (b ≡ true → L × B) → (L × B → b ≡ true) → L × Combines op A B → operated op a b ≡ true
+op_from : (op : Op) (L A B : Type 0) (a b : Bool) → (a ≡ true → L × A) → (L × A → a ≡ true) → (b ≡ true → L × B) → (L × B → b ≡ true) → L × Combines op A B → combined op a b ≡ true
 op_from And L A B true true fa ga fb gb h = refl
 op_from And L A B true false fa ga fb gb h = gb (h.0, h.1.1)
 op_from And L A B false b fa ga fb gb h = ga (h.0, h.1.0)
@@ -62,7 +62,7 @@ op_from Xor L A B true false fa ga fb gb h = refl
 op_from Xor L A B false true fa ga fb gb h = refl
 op_from Xor L A B false false fa ga fb gb h = elim h.1 [ inl x ↦ ga (h.0, x.0) | inr y ↦ gb (h.0, y.0) ]
 
-op_some : (op : Op) (a b : Bool) → operated op a b ≡ true → (a ≡ true) ⊎ (b ≡ true)
+op_some : (op : Op) (a b : Bool) → combined op a b ≡ true → (a ≡ true) ⊎ (b ≡ true)
 op_some op true b e = inl refl
 op_some op false true e = inr refl
 op_some And false false e = absurd (let z : ⊥ = cc in z)
@@ -73,9 +73,9 @@ op_some Xor false false e = absurd (let z : ⊥ = cc in z)
 no_more : (n m : ℕ) → n ≤ m → m ≡ 0 → n ≡ 0
 no_more n m le e = omega arith
 
-pub combined : (d : Linked) (cell : ℕ) (looks : List Rect) (op : Op) (x y : Formula) (a b r : List Rect) → ((s : Square) → covers r s ≡ operated op (covers a s) (covers b s))
+pub flat_of_two : (d : Linked) (cell : ℕ) (looks : List Rect) (op : Op) (x y : Formula) (a b r : List Rect) → ((s : Square) → covers r s ≡ combined op (covers a s) (covers b s))
     → IsFlatIn d cell looks x a → IsFlatIn d cell looks y b → IsFlatIn d cell looks (Binary op x y) r
-combined d cell looks op x y a b r e h g = record {
+flat_of_two d cell looks op x y a b r e h g = record {
   right = λ q held.
       let one = h.right q (λ z near. held z (wider (reach x) (max (reach x) (reach y)) z q (le-max_left (reach x) (reach y)) near)) in
       let two = g.right q (λ z near. held z (wider (reach y) (max (reach x) (reach y)) z q (le-max_right (reach x) (reach y)) near)) in

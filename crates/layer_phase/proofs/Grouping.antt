@@ -13,7 +13,8 @@ use Rattle.rect_sets.specs.Rects.{covers}
 use Rattle.flat_layout.specs.Layers.{Formula, Input, Empty, Binary, Sized, reach, inputs}
 use Rattle.flat_layout.specs.Values.{IsLocalLayer}
 use Rattle.sized_layers.specs.Sizes.{IsSetWithin}
-use Rattle.cell_graph.specs.Grown.{grown, IsInGrown}
+use Rattle.cell_graph.specs.Grown.{IsInGrown}
+use Rattle.geo_base.specs.Rects.{grown}
 use Rattle.cell_graph.specs.Linked.{Linked, IsSound, HullIsSound, cell_at, hull_of, plain}
 use Rattle.cell_graph.proofs.Bridge.{hull_sound}
 use Rattle.deep_laws.specs.Layers.{IsDerived}

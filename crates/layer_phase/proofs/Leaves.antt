@@ -1,12 +1,11 @@
 -- Cells that place no other.
 use Rattle.std.proofs.Common.{◌≡◌, ◌∙◌, ◌≤◌, ◌^◌, Bool, true, false, ℕ, List, [], Option, Some, ap, sym, subst, arith, length}
 use Rattle.std.proofs.lemmas.Option.{slice_get_within}
-use Rattle.geo_base.specs.Rects.{has}
+use Rattle.geo_base.specs.Rects.{has, grown}
 use Rattle.geo_base.specs.declared.shapes.Rect.{Rect}
 use Rattle.geo_base.specs.declared.shapes.Square.{Square}
 use Rattle.rect_sets.specs.Rects.{covers}
 use Rattle.cell_graph.specs.Linked.{Linked, IsSound, IsRectWithin, HullHas, HullIsSound, cell_at, hull_of, places_at}
-use Rattle.cell_graph.specs.Grown.{grown}
 use Rattle.cell_graph.proofs.Bridge.{hull_sound, own_in_hull}
 use Rattle.cell_graph.proofs.Growing.{within_rect}
 use Rattle.flat_laws.proofs.Moves.{within_back}

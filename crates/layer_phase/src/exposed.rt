@@ -28,7 +28,6 @@ use crate::work::View;
 use cell_context::grown;
 use cell_graph::Design;
 use deep_tables::{ZoneKey, Zones};
-use edge_boolean::combine;
 use geo_base::{Op, Rect};
 use rect_sets::RectSet;
 use rule_text::{LayerForm, LayerRule};
@@ -225,7 +224,7 @@ fn near_both(
     }
     let stirred = sized(alloc, places, most)?;
     let wide = sized(alloc, flat, most)?;
-    let set = combine(alloc, &stirred, &wide, Op::And)?;
+    let set = stirred.combined(alloc, &wide, Op::And)?;
     let chosen = fewer(&set, &stirred);
     let part = chosen.window(alloc, *window)?;
     let _near = part.rects();

@@ -15,7 +15,6 @@ ghost use Rattle.layer_phase.specs.Names.{AreFlats, IsFlatIn};
 use crate::parts::input_squares;
 use crate::squares::Squares;
 use cell_graph::Design;
-use edge_boolean::combine;
 use geo_base::{LayerKey, Op};
 use rect_sets::RectSet;
 use rule_text::{LayerForm, LayerRule};
@@ -48,7 +47,7 @@ fn two_flats<'a>(
     let none = RectSet::empty(alloc);
     let first = set_at(before, a, &none);
     let second = set_at(before, b, &none);
-    let set = combine(alloc, first, second, op)?;
+    let set = first.combined(alloc, second, op)?;
     Ok(Squares::own(set))
 }
 

@@ -3,7 +3,7 @@
 ghost use Rattle.std.specs.Prelude.{◌≡◌, ◌≤◌, ◌+◌, ◌^◌, ℕ, IfOk};
 ghost use Rattle.geo_base.specs.declared.shapes.Square.{Square};
 ghost use Rattle.rect_sets.specs.Rects.{covers};
-ghost use Rattle.cell_graph.specs.Grown.{grown};
+ghost use Rattle.geo_base.specs.Rects.{grown};
 ghost use Rattle.cell_graph.specs.Linked.{IsRectWithin};
 ghost use Rattle.sized_layers.specs.Sizes.{IsSetWithin};
 ghost use Rattle.layer_phase.specs.Around.{around};

@@ -28,7 +28,6 @@ use crate::squares::Squares;
 use crate::work::{CellWork, View};
 use cell_graph::Design;
 use deep_tables::ZoneKey;
-use edge_boolean::combine;
 use geo_base::{LayerKey, Op};
 use rect_sets::RectSet;
 use rule_text::{LayerForm, LayerRule};
@@ -60,7 +59,7 @@ fn seen(alloc: Global, flat: Squares<'_>, looks: &RectSet, far: u32) -> Result<R
     if far == 0 {
         return flat.into_set(alloc);
     }
-    combine(alloc, flat.set(), looks, Op::And)
+    flat.set().combined(alloc, looks, Op::And)
 }
 
 // Squares that aren't near disturbed ones, nor kept by placed cells.

@@ -1,4 +1,4 @@
-//! The squares that each cell holds itself.
+//! The squares that each cell holds itself: Booleans and sizes of layers, worked in the hierarchy.
 #![tactic(auto)]
 
 mod exposed;

@@ -2,13 +2,12 @@
 ghost use Rattle.std.specs.Prelude.{◌≡◌, ◌↔◌, ◌<◌, ◌≤◌, ◌^◌, ◌&&◌, not, ℕ, IfOk, OnOk, true};
 ghost use Rattle.std.specs.Prelude.{List, length};
 ghost use Rattle.std.specs.List.{All};
-ghost use Rattle.geo_base.specs.Rects.{IsRect, has};
+ghost use Rattle.geo_base.specs.Rects.{IsRect, has, grown};
 ghost use Rattle.geo_base.specs.declared.shapes.Rect.{Rect as Rectangle};
 ghost use Rattle.geo_base.specs.declared.shapes.Square.{Square};
 ghost use Rattle.rect_sets.specs.Rects.{covers};
 ghost use Rattle.flat_layout.specs.Layers.{Formula, IsLocal};
 ghost use Rattle.flat_layout.specs.Layout.{InFlatInput, IsReached};
-ghost use Rattle.cell_graph.specs.Grown.{grown};
 ghost use Rattle.cell_graph.specs.Linked.{IsFrame, IsRectWithin, plain};
 ghost use Rattle.layer_phase.specs.Around.{around};
 ghost use Rattle.layer_phase.specs.Keeps.{HasEntry, HaveEntries, IsKeptBy, IsZoneAt};
@@ -21,9 +20,8 @@ use crate::work::CellWork;
 use cell_context::{Visit, gather, grown, push_images, push_pieces, visits};
 use cell_graph::Design;
 use deep_tables::{ZoneKey, Zones};
-use edge_boolean::combine;
 use geo_base::{LayerKey, Op, Rect};
-use rect_sets::{RectSet, Rule, combine_rects};
+use rect_sets::{RectSet, combine_rects};
 use std::alloc::{AllocError, Global};
 
 /// The flat squares of a cell on an input layer among the squares that are looked at: one walk for
@@ -90,12 +88,12 @@ fn cut_near(
         → covers r q ≡ (has window.now q && not (covers (around reach there.items) q))) }
 {
     if reach == 0 {
-        return combine_rects(alloc, &[*window], &there, Rule::Not);
+        return combine_rects(alloc, &[*window], &there, Op::Not);
     }
     let set = RectSet::canon(alloc, there)?;
     let _rects = set.rects();
     let stirred = sized(alloc, &set, reach)?;
-    combine_rects(alloc, &[*window], stirred.rects(), Rule::Not)
+    combine_rects(alloc, &[*window], stirred.rects(), Op::Not)
 }
 
 // The part of a visit's window near which nothing is disturbed in the visited cell: only what is
@@ -179,7 +177,7 @@ fn without(alloc: Global, set: RectSet, other: &RectSet) -> Result<RectSet, Allo
     if other.rects().is_empty() {
         return Ok(set);
     }
-    combine(alloc, &set, other, Op::Not)
+    set.combined(alloc, other, Op::Not)
 }
 
 /// A cell's layer: flat squares, without the disturbed ones and those that placed cells keep.

@@ -12,9 +12,8 @@ ghost use Rattle.cell_context.specs.Placed.{Grows};
 
 use crate::work::View;
 use deep_tables::{ZoneKey, Zones};
-use edge_boolean::combine;
 use geo_base::{Op, Rect};
-use rect_sets::{RectSet, Rule, combine_rects};
+use rect_sets::{RectSet, combine_rects};
 use std::alloc::{AllocError, Global};
 
 // Of two sets the squares of both: the first one itself, where it is empty.
@@ -24,7 +23,7 @@ fn shared(alloc: Global, set: RectSet, other: &RectSet) -> Result<RectSet, Alloc
     if set.rects().is_empty() {
         return Ok(set);
     }
-    combine(alloc, &set, other, Op::And)
+    set.combined(alloc, other, Op::And)
 }
 
 // Those of a set that are disturbed for a name, where it is marked.
@@ -78,6 +77,6 @@ pub fn outside(alloc: Global, rects: Vec<Rect>, set: &RectSet) -> Result<Vec<Rec
     if set.rects().is_empty() {
         return Ok(rects);
     }
-    let left = combine_rects(alloc, &rects, set.rects(), Rule::Not)?;
+    let left = combine_rects(alloc, &rects, set.rects(), Op::Not)?;
     left.rects().to_vec(alloc)
 }

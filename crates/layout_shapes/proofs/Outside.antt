@@ -7,7 +7,7 @@ use Rattle.geo_base.specs.declared.shapes.Rect.{Rect}
 use Rattle.geo_base.specs.declared.shapes.Square.{Square}
 use Rattle.flat_layout.specs.Hull.{IsHullOf, IsHullRect, IsInHull}
 use Rattle.flat_layout.specs.Layout.{Design}
-use Rattle.cell_graph.specs.Grown.{grown}
+use Rattle.geo_base.specs.Rects.{grown}
 use Rattle.cell_graph.specs.Linked.{IsRectWithin}
 use Rattle.layout_shapes.specs.Wide.{IsFarOut}
 

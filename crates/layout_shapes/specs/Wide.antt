@@ -2,12 +2,11 @@
 use Rattle.std.specs.Prelude.{◌≡◌, ◌⊎◌, ℕ, ◌<◌, ◌^◌, ℤ, pos, ◌-ℤ◌, List, map, get_or, Option, Some}
 use Rattle.std.specs.Prelude.{None, Contains, Bool, true, ◌&&◌, not, min, IsSome}
 use Rattle.std.specs.List.{All, list_any}
-use Rattle.geo_base.specs.Rects.{is_between}
+use Rattle.geo_base.specs.Rects.{is_between, grown}
 use Rattle.geo_base.specs.declared.shapes.Rect.{Rect}
 use Rattle.flat_layout.specs.Hull.{IsHullRect}
 use Rattle.flat_layout.specs.Layers.{Empty, reach}
 use Rattle.flat_layout.specs.Layout.{Design, IsReached}
-use Rattle.cell_graph.specs.Grown.{grown}
 use Rattle.cell_graph.specs.Linked.{Linked, IsRectWithin, plain}
 use Rattle.deep_tables.specs.Layers.{layer_of}
 use Rattle.deep_tables.specs.declared.layers.CellLayers.{CellLayers}

@@ -5,4 +5,5 @@ pub mod Numbers
 pub mod OnePath
 pub mod Rest
 pub mod Told
-pub mod Written
+pub mod WrittenFiles
+pub mod Writing

@@ -10,3 +10,4 @@ pub mod LentFiles
 pub mod QuietStore
 pub mod EndlessStore
 pub mod IdleStore
+pub mod Files

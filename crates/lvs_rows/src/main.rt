@@ -8,9 +8,10 @@ mod runs;
 
 use crate::runs::{put_inputs, run_in_folder, run_in_memory, words_of};
 use lvs_outside::{StdoutSink, write_all};
+use row_netlists::{Netlists, run_on_netlists};
 use row_texts::{
     Fields, Inputs, Place, Ran, Row, RowFault, Section, all_inputs, compare_all, file_of,
-    is_command, lines_of, read_sections, status_of,
+    is_command, lines_of, read_sections, status_of, text_of,
 };
 use std::alloc::Global;
 use std::process::ExitCode;
@@ -50,6 +51,28 @@ fn compare_extracted<R: Threads + Wait + Sync>(
     Ok(())
 }
 
+// Whether a command is over netlists alone.
+fn is_over_netlists(section: &Section<'_>) -> bool {
+    let first = Fields::of(section.rest).word();
+    matches!(section.word, b"command")
+        && matches!(first, b"cards" | b"merge" | b"align" | b"compare")
+}
+
+// Runs a command over the netlists of a row.
+fn run_netlists<R: Files + AllocGlobal + Threads + Wait + Sync>(
+    rt: &R,
+    row: &Row<'_>,
+    words: &[u8],
+    schematic: &[u8],
+) -> Result<Ran, RowFault> {
+    let extracted = text_of(rt, row, b"extracted")?;
+    let netlists = Netlists {
+        extracted: &extracted,
+        schematic,
+    };
+    run_on_netlists(rt, rt.alloc(), words, netlists)
+}
+
 // Runs one command of a row over its inputs.
 fn run_one<R: Files + AllocGlobal + Threads + Wait + Sync>(
     rt: &R,
@@ -59,6 +82,10 @@ fn run_one<R: Files + AllocGlobal + Threads + Wait + Sync>(
     inputs: &Inputs,
 ) -> Result<(), RowFault> {
     let alloc = rt.alloc();
+    if is_over_netlists(section) {
+        let ran = run_netlists(rt, row, section.rest, &inputs.schematic)?;
+        return compare_all(rt, out, row, Place::Memory, &ran);
+    }
     let words = words_of(alloc, section)?;
     if row.find(b"folder").is_some() {
         put_inputs(rt, row, inputs)?;

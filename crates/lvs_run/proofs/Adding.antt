@@ -3,8 +3,8 @@ use Rattle.std.proofs.Common.{◌≡◌, ◌<◌, ◌++◌, ℕ, suc, List, [], 
 use Rattle.std.proofs.lemmas.List.{length-map}
 use Rattle.net_model.specs.Rows.{plain_circuit}
 use Rattle.net_model.specs.declared.netlist.Circuit.{Circuit}
-use Rattle.lvs_files.specs.Files.{File, files_of}
-use Rattle.lvs_files.specs.declared.files.Written.{Written}
+use Rattle.lvs_outside.specs.Files.{File, files_of}
+use Rattle.lvs_outside.specs.declared.files.Written.{Written}
 use Rattle.lvs_run.specs.Answers.{Done, verdict_of}
 use Rattle.lvs_run.specs.Lines.{counts_line, line_of, verdict_word}
 use Rattle.lvs_run.specs.declared.output.Verdict.{Verdict}

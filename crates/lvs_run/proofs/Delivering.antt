@@ -1,7 +1,7 @@
 -- What the end of a run leaves, seen from before the inputs were read.
 use Rattle.std.proofs.Common.{◌≡◌, inl, inr, ℕ, ◌+◌, ◌<◌, List, [], ◌∷◌, ◌++◌, Option, refl, sym, ap, subst, ◌∙◌}
 use Rattle.lvs_outside.specs.Store.{Store, SameFiles, appended}
-use Rattle.lvs_files.specs.Files.{File, IsWritten, AreWritten, ArePartWritten, WroteWhole}
+use Rattle.lvs_outside.specs.Files.{File, IsWritten, AreWritten, ArePartWritten, WroteWhole}
 use Rattle.lvs_outside.specs.Summary.{SinkState}
 use Rattle.lvs_run.specs.declared.status.Refusal.{Refusal}
 use Rattle.lvs_run.specs.declared.status.Refusal.TheVariants.{Words}

@@ -3,7 +3,7 @@ use Rattle.std.proofs.Common.{◌≡◌, inl, inr, ℕ, List, [], ◌∷◌, len
 use Rattle.std.proofs.lemmas.List.{nil_from_length}
 use Rattle.lvs_outside.specs.Store.{Store, Told, Holds}
 use Rattle.lvs_outside.specs.Summary.{SinkState}
-use Rattle.lvs_files.specs.Files.{File, IsWritten, AreWritten, IsApart, AreApart, files_of}
+use Rattle.lvs_outside.specs.Files.{File, IsWritten, AreWritten, IsApart, AreApart, files_of}
 use Rattle.gds_layout.specs.declared.layout.Layout.{Layout as ReadLayout}
 use Rattle.gds_layout.specs.Layouts.{IsRead}
 use Rattle.shapes_file.specs.Flat.{CoversFlat}

@@ -5,7 +5,7 @@ use Rattle.std.proofs.lemmas.List.{append_cancel_left}
 use Rattle.std.proofs.lemmas.Slice.Eq.{bytes_eq-Decides}
 use Rattle.lvs_outside.specs.Store.{Store, Told, NoFile, Holds}
 use Rattle.lvs_outside.specs.Loops.{limit}
-use Rattle.lvs_files.specs.Files.{File, AreApart}
+use Rattle.lvs_outside.specs.Files.{File, AreApart}
 use Rattle.gds_layout.specs.declared.layout.Layout.{Layout as ReadLayout}
 use Rattle.gds_layout.specs.Layouts.{IsRead, IsFaultOf}
 use Rattle.gds_layout.specs.declared.layout.LayoutFault.{LayoutFault}

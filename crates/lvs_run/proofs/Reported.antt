@@ -2,7 +2,7 @@
 use Rattle.std.proofs.Common.{◌≡◌, inl, inr, ℕ, List, Option, Some, length, refl, sym, subst, ◌∙◌}
 use Rattle.lvs_outside.specs.Store.{Store, Told, Untold, NoFile, Holds}
 use Rattle.lvs_outside.specs.Summary.{SinkState}
-use Rattle.lvs_files.specs.Files.{AreApart, files_of}
+use Rattle.lvs_outside.specs.Files.{AreApart, files_of}
 use Rattle.gds_layout.specs.declared.layout.Layout.{Layout}
 use Rattle.gds_layout.specs.Layouts.{IsRead}
 use Rattle.plain_netlist.specs.Netlist.{Netlist}

@@ -4,7 +4,7 @@ use Rattle.gds_layout.specs.declared.layout.LayoutFault.{LayoutFault}
 use Rattle.gds_layout.specs.declared.layout.LayoutFault.TheVariants as layout
 use Rattle.rule_text.specs.declared.fault.RuleFault.{RuleFault}
 use Rattle.rule_text.specs.declared.fault.RuleFault.TheVariants as rule
-use Rattle.lvs_files.specs.Files.{File}
+use Rattle.lvs_outside.specs.Files.{File}
 use Rattle.shapes_file.specs.declared.file.Shapes.{Shapes}
 use Rattle.spice_rows.specs.declared.fault.SpiceFault.{SpiceFault}
 use Rattle.spice_rows.specs.declared.fault.SpiceFault.TheVariants as spice

@@ -4,7 +4,7 @@ use Rattle.std.specs.Str.{bytes_eq}
 use Rattle.chip_maker.specs.Rules.{chip_rules}
 use Rattle.chip_maker.specs.Schematic.{chip_netlist}
 use Rattle.chip_maker.specs.Stream.{chip_stream}
-use Rattle.lvs_files.specs.Files.{File}
+use Rattle.lvs_outside.specs.Files.{File}
 use Rattle.lvs_outside.specs.Store.{Told, Holds}
 
 -- its layout, its rules and its schematic, of n inverters drawn from a seed

@@ -5,7 +5,7 @@ use Rattle.lvs_outside.specs.Summary.{SinkState}
 use Rattle.lvs_outside.specs.Loops.{ForPrefix}
 use Rattle.lvs_run.specs.Answers.{Done, Answer, Outside, NoMemory, IsVerdict, nothing}
 use Rattle.lvs_run.specs.Answers.{verdict_of}
-use Rattle.lvs_files.specs.Files.{ArePartWritten, WroteWhole, WrotePart, files_of}
+use Rattle.lvs_outside.specs.Files.{ArePartWritten, WroteWhole, WrotePart, files_of}
 use Rattle.lvs_run.specs.Runs.{HasCauseIn, depot_faults, sink_faults, Leaves, Says, StartsNone}
 use Rattle.lvs_run.specs.Lines.{line_of}
 use Rattle.lvs_run.specs.Outcomes.{IsOutcome}

@@ -2,7 +2,7 @@
 use Rattle.std.specs.Prelude.{◌≡◌, ◌⊎◌, ◌↔◌, ℕ, List, [], ◌∷◌, Option, Some, None}
 use Rattle.lvs_outside.specs.Loops.{IsFile}
 use Rattle.lvs_outside.specs.Store.{Store, Told, Holds}
-use Rattle.lvs_files.specs.Files.{File}
+use Rattle.lvs_outside.specs.Files.{File}
 use Rattle.gds_layout.specs.declared.layout.Layout.{Layout}
 use Rattle.gds_layout.specs.Layouts.{IsRead}
 use Rattle.shapes_file.specs.Flat.{CoversFlat}

@@ -11,7 +11,7 @@ use Rattle.spice_text.specs.Means.{Means as SpiceMeans}
 use Rattle.rule_text.specs.Reading.{IsFirstFault as IsFirstRuleFault}
 use Rattle.shapes_file.specs.File.{IsNarrow}
 use Rattle.lvs_run.specs.Words.{Outputs, Paths, ForNetlist, ForShapes, inputs, inputs_of}
-use Rattle.lvs_files.specs.Files.{AreApart, files_of}
+use Rattle.lvs_outside.specs.Files.{AreApart, files_of}
 use Rattle.lvs_run.specs.Answers.{Done, Answer, Good, RefusedAbsent, RefusedLong, RefusedRules}
 use Rattle.lvs_run.specs.Answers.{RefusedLayout, RefusedSchematic, RefusedWide}
 use Rattle.lvs_run.specs.Answers.{RefusedMergedLayout}

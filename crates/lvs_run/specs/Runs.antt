@@ -17,7 +17,7 @@ use Rattle.spice_rows.specs.declared.fault.SpiceFault.{SpiceFault}
 use Rattle.lvs_run.specs.Chips.{chip_files, layout_text, rules_text, schematic_text, with_files}
 use Rattle.lvs_run.specs.Words.{Outputs, Paths, ToShapes, ToNetlist, ToReport, ToChip}
 use Rattle.lvs_run.specs.Words.{IsSame, schematic_path}
-use Rattle.lvs_files.specs.Files.{File, AreWritten}
+use Rattle.lvs_outside.specs.Files.{File, AreWritten}
 use Rattle.lvs_run.specs.Answers.{Done, Answer, Good, Bad, RefusedWords, RefusedSame}
 use Rattle.lvs_run.specs.Answers.{RefusedAbsent, RefusedLong, RefusedRules, RefusedLayout}
 use Rattle.lvs_run.specs.Answers.{RefusedSchematic, RefusedWide, RefusedMergedLayout}

@@ -3,7 +3,7 @@
 use Rattle.std.specs.Prelude.{◌≡◌, ◌⊎◌, ◌↔◌, ℕ, true, List, Option, Some, IsSomeAnd}
 use Rattle.std.specs.List.{All, Any}
 use Rattle.lvs_outside.specs.Store.{Store, Told, Holds}
-use Rattle.lvs_files.specs.Files.{File}
+use Rattle.lvs_outside.specs.Files.{File}
 use Rattle.cell_graph.specs.Linked.{plain}
 use Rattle.deep_tables.specs.declared.gates.BadGate.{BadGate}
 use Rattle.gds_layout.specs.declared.layout.Layout.{Layout}

@@ -2,7 +2,7 @@
 use Rattle.std.specs.Prelude.{◌≡◌, ◌≢◌, ◌≤◌, ℕ, List, [], ◌∷◌, Option, Some, None, codes}
 use Rattle.std.specs.Prelude.{string_bytes}
 use Rattle.std.specs.Option.{option_map}
-use Rattle.lvs_files.specs.Files.{AreApart, File}
+use Rattle.lvs_outside.specs.Files.{AreApart, File}
 use Rattle.lvs_outside.specs.Store.{Told}
 use Rattle.lvs_words.specs.Commands.{Asked, Shapes, Extract, Run, Make, Said}
 use Rattle.lvs_words.specs.Commands.{said as stated_by}

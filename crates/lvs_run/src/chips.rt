@@ -3,7 +3,7 @@
 ghost use Rattle.std.specs.Prelude.{◌≡◌, ◌≤◌, ◌++◌, ◌∷◌, [], length, Some, codes, string_bytes};
 ghost use Rattle.std.specs.Prelude.{IfOk, IfErr, OnOk};
 ghost use Rattle.gds_layout.specs.Layouts.{IsRead};
-ghost use Rattle.lvs_files.specs.Files.{files_of};
+ghost use Rattle.lvs_outside.specs.Files.{files_of};
 ghost use Rattle.lvs_outside.specs.Loops.{limit};
 ghost use Rattle.lvs_outside.specs.Store.{Store};
 ghost use Rattle.lvs_run.specs.Chips.{layout_at, layout_text, rules_at, rules_text};
@@ -30,8 +30,7 @@ use crate::words::ChipTask;
 use chip_maker::{Made, make};
 use gds_layout::{Layout, read_layout};
 use job_board::{Crew, Gate};
-use lvs_files::Written;
-use lvs_outside::LIMIT;
+use lvs_outside::{LIMIT, Written};
 use net_model::Netlist;
 use net_names::Name;
 use report_file::read_alignable;

@@ -6,7 +6,7 @@ ghost use Rattle.cell_graph.specs.Linked.{cell_at};
 ghost use Rattle.cell_graph.specs.declared.cells.CellPart.{CellPart};
 ghost use Rattle.gds_layout.specs.Layouts.{IsRead};
 ghost use Rattle.gds_layout.specs.declared.layout.Layout.{Layout as Layouts};
-ghost use Rattle.lvs_files.specs.Files.{AreApart, files_of};
+ghost use Rattle.lvs_outside.specs.Files.{AreApart, files_of};
 ghost use Rattle.lvs_run.specs.Inputs.{IsOutput, IsOutputBeside, IsStopFor, NotForRun, NotMerged};
 ghost use Rattle.lvs_run.specs.Inputs.{NotWide, stopped};
 ghost use Rattle.net_align.specs.Compared.{AreCalleesFirst, IsAlignable};
@@ -33,11 +33,11 @@ use crate::words::{LayoutOutputs, ReportPaths};
 use deep_tables::BadGate;
 use gds_layout::Layout;
 use job_board::{Crew, Gate};
-use lvs_files::Written;
+use lvs_outside::Written;
 use net_model::Netlist;
 use netlist_file::{Extraction, Files, NetlistFile, extract_files, extract_netlist, flat_netlist};
 use pair_jobs::Verdict as Comparison;
-use report_file::{Report, combined_alignable, extracted_alignable, report_file};
+use report_file::{Extracted, Report, combined_alignable, extracted_alignable, report_file};
 use rule_text::RuleSet;
 use shapes_file::{Drawing, Shapes, shapes_file};
 use std::alloc::{AllocError, Global};
@@ -129,8 +129,12 @@ fn report_on<R: Threads + Wait + Sync, G: Gate + Sync>(
         (plain_netlist schematic.now) x.text.items x.pairs x.verdict) }
 {
     flat_netlist();
-    let (design, top, bad) = (&layout.design, found.top, found.bad.as_slice());
-    let report = report_file(alloc, design, rules, netlist, top, bad, schematic, crew)?;
+    let extracted = Extracted {
+        netlist,
+        top: found.top,
+        bad: found.bad.as_slice(),
+    };
+    let report = report_file(alloc, &layout.design, rules, &extracted, schematic, crew)?;
     Ok(report)
 }
 

@@ -1,7 +1,7 @@
 //! What a run has to write.
 
 use crate::status::Status;
-use lvs_files::Written;
+use lvs_outside::Written;
 
 /// How a run that writes its files ends.
 #[derive(Clone, Copy, Debug)]

@@ -3,7 +3,7 @@
 ghost use Rattle.std.specs.Prelude.{◌≡◌, ◌≤◌, ℕ, List, Option, map, string_bytes, IfOk, IfErr};
 ghost use Rattle.std.specs.Prelude.{Some, None};
 ghost use Rattle.gds_layout.specs.Layouts.{IsRead};
-ghost use Rattle.lvs_files.specs.Files.{AreApart, files_of};
+ghost use Rattle.lvs_outside.specs.Files.{AreApart, files_of};
 ghost use Rattle.lvs_outside.specs.Store.{HasRoom};
 ghost use Rattle.lvs_outside.specs.Summary.{SinkHasRoom};
 ghost use Rattle.lvs_run.specs.Answers.{answer_of, refused};
@@ -28,8 +28,7 @@ use crate::summary::refusal_line;
 use crate::words::{Outputs, ReportPaths, Task, Work, read_work};
 use gds_layout::Layout;
 use job_board::{Crew, Gate};
-use lvs_files::write_files;
-use lvs_outside::{Depot, Sink, write_all};
+use lvs_outside::{Depot, Sink, write_all, write_files};
 use lvs_words::WordFault;
 use netlist_file::flat_netlist;
 use report_file::read_alignable;

@@ -2,7 +2,7 @@
 
 ghost use Rattle.std.specs.Prelude.{◌≡◌, map, IfOk, IsErrOf, None, Some, string_bytes};
 ghost use Rattle.std.specs.Option.{option_map};
-ghost use Rattle.lvs_files.specs.Files.{AreApart};
+ghost use Rattle.lvs_outside.specs.Files.{AreApart};
 ghost use Rattle.lvs_run.specs.Words.{AreInverters, AreWorkers, IsFairSaid, IsFairWork, ToReport};
 ghost use Rattle.lvs_run.specs.Words.{ToShapes, blank_files, chip_paths};
 ghost use Rattle.lvs_run.specs.Words.{built_of, outputs_of, said, work_paths};

@@ -7,6 +7,7 @@ ghost use Rattle.lvs_outside.specs.Store.{HasRoom};
 use job_board::{Gate, OpenGate};
 use lvs_outside::{MemoryDepot, MemorySink};
 use lvs_run::run_lvs;
+use row_texts::Ran;
 use std::alloc::{AllocError, Global};
 use std::process::Abort;
 use std::sync::Wait;
@@ -55,29 +56,6 @@ pub fn drawing<'a>(layout: &'a [u8], rules: &'a str) -> Inputs<'a> {
         layout,
         rules,
         schematic: "",
-    }
-}
-
-/// What a run left.
-#[derive(Debug)]
-pub struct Ran {
-    pub code: u8,
-    pub line: Vec<u8>,
-    pub shapes: Option<Vec<u8>>,
-    pub netlist: Option<Vec<u8>>,
-    pub report: Option<Vec<u8>>,
-}
-
-// Written out, so that its owners drop it by one call.
-impl Drop for Ran {
-    fn drop(self) {
-        let Ran {
-            code: _,
-            line: _,
-            shapes: _,
-            netlist: _,
-            report: _,
-        } = self;
     }
 }
 
@@ -230,20 +208,4 @@ pub fn holds<R: Abort>(rt: &R, file: &Option<Vec<u8>>, text: &str, name: &str) {
         None => "no file",
     };
     assert_eq!(rt; found, text, "{name}");
-}
-
-/// A refusal has status 2 and its line, and starts no file.
-pub fn refuses<R: Abort + Threads + Wait + Sync>(
-    rt: &R,
-    alloc: Global,
-    inputs: Inputs<'_>,
-    words: &[&str],
-    line: &str,
-) -> Result<(), AllocError> {
-    let ran = run_of(rt, alloc, inputs, words, NONE)?;
-    ends(rt, &ran, 2, line, line);
-    assert!(rt; ran.shapes.is_none(), "{line}");
-    assert!(rt; ran.netlist.is_none(), "{line}");
-    assert!(rt; ran.report.is_none(), "{line}");
-    Ok(())
 }

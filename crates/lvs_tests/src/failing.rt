@@ -1,8 +1,9 @@
 //! Calls of the outside that fail, and the numbers of how a run ends.
 
-use crate::commands::{EXTRACT, Failing, Inputs, RUN, Ran, SHAPES, drawing, run_of};
+use crate::commands::{EXTRACT, Failing, Inputs, RUN, SHAPES, drawing, run_of};
 use crate::layouts::{COMMON, MOS, OVERLAP, T, T_NETLIST, T_SCHEMATIC, front, stream};
 use lvs_run::{Refusal, Status};
+use row_texts::Ran;
 use std::alloc::{AllocError, Global};
 use std::process::Abort;
 use std::sync::Wait;

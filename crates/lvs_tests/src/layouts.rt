@@ -19,9 +19,6 @@ pub const OVERLAP: &str = "cell A\nrect 1 0 0 10 10\nrect 2 5 5 15 15\n";
 /// Rules of what two layers have in common.
 pub const COMMON: &str = "a = input(1, 0)\nb = input(2, 0)\nc = a & b\nc.output(10, 0)\n";
 
-/// Layer 1 as it is drawn.
-pub const COPY: &str = "a = input(1, 0)\na.output(10, 0)\n";
-
 /// Rules of transistors of one class, whose bulk is a global.
 pub const MOS: &str = r#"active = input(2, 0)
 poly = input(3, 0)

@@ -1,13 +1,10 @@
 //! Tests of what a row of lvs_rows can't say: runs of which a call fails, over depots of other kinds,
-//! with two workers at once, of chips that were made, at limits; and of a layout's way: streams that
-//! are read in pieces, what windows find, what is written and read again, and the phases from a
-//! stream and a rule file to nets, gates and pins.
+//! with two workers at once, of chips that were made; and of a layout's way: streams that are read in
+//! pieces, what windows find, and the phases from a stream and a rule file to nets, gates and pins.
 #![tactic(auto)]
 
 #[cfg(test)]
 mod abreast;
-#[cfg(test)]
-mod again;
 #[cfg(test)]
 mod commands;
 #[cfg(test)]
@@ -21,13 +18,9 @@ mod inputs;
 #[cfg(test)]
 mod layouts;
 #[cfg(test)]
-mod limits;
-#[cfg(test)]
 mod listing;
 #[cfg(test)]
 mod made;
-#[cfg(test)]
-mod many;
 #[cfg(test)]
 mod nets;
 #[cfg(test)]

@@ -1,7 +1,8 @@
 //! A chip that was made, and what is run on its files.
 
-use crate::commands::{Failing, NONE, Ran, bytes_of, ends, holds, joined, run_files};
+use crate::commands::{Failing, NONE, bytes_of, ends, holds, joined, run_files};
 use job_board::OpenGate;
+use row_texts::Ran;
 use std::alloc::{AllocError, Global};
 use std::process::Abort;
 use std::sync::Wait;

@@ -9,7 +9,7 @@ use gds_elements::GdsFault;
 use gds_layout::{Layout, LayoutFault, LayoutReader, read_layout};
 use geo_base::LayerKey;
 use net_names::Name;
-use std::alloc::{AllocError, Global};
+use std::alloc::Global;
 use std::test::Fail;
 
 /// The layers 1/0 and 2/0.
@@ -298,27 +298,5 @@ fn links_at_the_end(rt: HostRuntime) -> Result<(), Fail> {
             assert!(rt; is_fault(answer, *number, name), "{number} {size}");
         }
     }
-    Ok(())
-}
-
-// Cells by their numbers, and a cell that places each of them once.
-fn placed_once(alloc: Global, cells: u32) -> Result<Vec<u8>, AllocError> {
-    let mut text = format!(in alloc; "cell C0\nchain C {}\ncell TOP\n", cells.saturating_sub(1))?;
-    for number in 0..cells {
-        let place = format!(in alloc; "place C{number} 0 0\n")?;
-        text.push_str(place.as_str())?;
-    }
-    stream(alloc, text.as_str())
-}
-
-// As many cells as a layout may have, and one more.
-#[test]
-fn most_cells(rt: HostRuntime) -> Result<(), Fail> {
-    let alloc = rt.alloc();
-    let layout = read_layout(alloc, &placed_once(alloc, 65535)?, None)?;
-    assert!(rt; layout.design.cells() == 65536);
-    assert!(rt; layout.design.top() == 65535);
-    let answer = read_layout(alloc, &placed_once(alloc, 65536)?, None);
-    assert!(rt; is_fault(answer, 26, ""));
     Ok(())
 }

@@ -28,6 +28,15 @@ pub struct Comparison {
     pub answers: Results<Answer>,
 }
 
+/// What a comparison goes by: circuits that are partners whatever their names are, how many guesses
+/// of a pair may end refuted, and whether names tell the tops' pins apart.
+#[derive(Clone, Copy)]
+pub struct Settings<'a> {
+    pub same: &'a [(Name, Name)],
+    pub limit: u32,
+    pub same_pins: bool,
+}
+
 // The answers of all pairs.
 fn answer_pairs<R: Threads + Wait + Sync, G: Gate + Sync>(
     alloc: Global,
@@ -48,39 +57,38 @@ fn answer_pairs<R: Threads + Wait + Sync, G: Gate + Sync>(
 
 /// The layout below its top compared with the schematic; nothing where the top has no partner.
 /// Partners are as `align` finds them, and a pair is compared after those that its left circuit
-/// calls, with at most `limit` refuted guesses; with `same_pins` names tell the tops' pins apart.
-/// The answer is the same for every number of workers. The error is want of memory.
+/// calls. The answer is the same for every number of workers. The error is want of memory.
 pub fn compare<R: Threads + Wait + Sync, G: Gate + Sync>(
     alloc: Global,
     layout: &Netlist,
     top: u32,
     schematic: &Netlist,
-    same: &[(Name, Name)],
-    limit: u32,
-    same_pins: bool,
+    settings: &Settings<'_>,
     crew: &Crew<R, G>,
 ) -> Result<Option<Comparison>, AllocError>
     requires layout { IsAlignable (plain_netlist layout.now) }
     requires schematic { IsAlignable (plain_netlist schematic.now) }
     requires order { AreCalleesFirst (plain_netlist layout.now) }
     requires top { top < length layout.now.circuits.items }
-    requires lefts { AreApart (left_names same.now) }
-    requires rights { AreApart (right_names same.now) }
+    requires lefts { AreApart (left_names settings.now.same.now) }
+    requires rights { AreApart (right_names settings.now.same.now) }
     ensures none { IfOk result (λ found. IsNone found
-        ↔ HasNoPartner (plain_netlist layout.now) (plain_netlist schematic.now) top same.now) }
+        ↔ HasNoPartner (plain_netlist layout.now) (plain_netlist schematic.now) top
+        settings.now.same.now) }
     ensures pair { IfOk result (λ found. IfSome found (λ c.
-        AreAligned (plain_netlist layout.now) (plain_netlist schematic.now) top same.now
-        (plain_netlist c.left) (plain_netlist c.right))) }
+        AreAligned (plain_netlist layout.now) (plain_netlist schematic.now) top
+        settings.now.same.now (plain_netlist c.left) (plain_netlist c.right))) }
     ensures comparable { IfOk result (λ found. IfSome found (λ c.
         AreComparable (plain_netlist c.left) (plain_netlist c.right))) }
     ensures answers { IfOk result (λ found. IfSome found (λ c. AreAllAnswers
         (plain_netlist c.left) (plain_netlist c.right)
-        (asked_of (plain_netlist c.left) limit same_pins) (map plain_answer c.answers))) }
+        (asked_of (plain_netlist c.left) settings.now.limit settings.now.same_pins)
+        (map plain_answer c.answers))) }
 {
-    let Some(aligned) = align(alloc, layout, top, schematic, same, crew)? else {
+    let Some(aligned) = align(alloc, layout, top, schematic, settings.same, crew)? else {
         return Ok(None);
     };
-    let answers = answer_pairs(alloc, &aligned, limit, same_pins, crew)?;
+    let answers = answer_pairs(alloc, &aligned, settings.limit, settings.same_pins, crew)?;
     let Aligned { left, right } = aligned;
     Ok(Some(Comparison {
         left,

@@ -5,6 +5,6 @@ mod comparing;
 mod laws;
 mod phase;
 
-pub use comparing::{Comparison, compare};
+pub use comparing::{Comparison, Settings, compare};
 pub use laws::device_counts;
 pub use phase::PairPhase;

@@ -11,7 +11,7 @@ use Rattle.round_laws.specs.Web.{Port as PlainPort, Pin, End as PlainEnd, IsNode
 use Rattle.round_laws.specs.Nodes.{Node, Side, Layout, Schematic, Kind, Net, Device, Call}
 use Rattle.round_laws.proofs.Agree.{in_left, in_right, count_none, count_same}
 use Rattle.round_laws.proofs.Stable.{in_either}
-use Rattle.part_laws.specs.Renamed.{renamed_end}
+use Rattle.round_laws.specs.Renamed.{renamed_end}
 use Rattle.match_laws.specs.Circuits.{Pair, circuit_of, numbers_from, node, end_at, right_pin, device_ends, call_ends, terminals, terminals_of, owners, nodes, same_node, ends_on, near_at, web_of, IsFitting}
 use Rattle.match_laws.proofs.Sums.{sum_same, sum-map, sum-flat, in_map, number_once}
 use Rattle.match_laws.proofs.Images.{size, seen, device_net, node_decides, nodes_there, device_terms, call_terms, terminals_listed, sum-turned}

@@ -5,7 +5,7 @@ use Rattle.round_laws.specs.Web.{Port as PlainPort, EitherEnd, Other, Pin, End a
 use Rattle.round_laws.specs.Web.{IsWeb, IsNode}
 use Rattle.round_laws.specs.Nodes.{Node}
 use Rattle.round_laws.specs.Colours.{ends_of}
-use Rattle.part_laws.specs.Renamed.{IsRenamed}
+use Rattle.round_laws.specs.Renamed.{IsRenamed}
 use Rattle.match_laws.specs.Circuits.{Pair, numbers_from, web_of}
 use Rattle.match_graph.specs.Numbering.{AreSizesOf, end_of, index_of}
 use Rattle.match_graph.specs.declared.graph.Port.{Port}

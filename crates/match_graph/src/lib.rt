@@ -1,5 +1,5 @@
-//! Two circuits as one graph in flat arrays: nets, devices and calls as numbered nodes, each with its
-//! ends.
+//! Two circuits as one graph in flat arrays: nets, devices and calls (instances) as numbered nodes,
+//! each with its ends.
 #![tactic(auto)]
 
 mod edges;

@@ -7,8 +7,8 @@ use Rattle.round_laws.specs.Web.{Web, IsWeb, IsNode, agree, IsEven, IsStable, Gu
 use Rattle.round_laws.specs.Colours.{AreColours, SplitsBy}
 use Rattle.round_laws.proofs.Agree.{under_web, count_same}
 use Rattle.round_laws.proofs.Stable.{finite}
-use Rattle.part_laws.specs.Parting.{SinglesOut}
-use Rattle.part_laws.proofs.Resumed.{pair, start, step, last, union, even_before, last_guess}
+use Rattle.round_laws.specs.Parting.{SinglesOut}
+use Rattle.round_laws.proofs.Resumed.{pair, start, step, last, union, even_before, last_guess}
 use Rattle.match_graph.specs.declared.graph.Graph.{Graph}
 use Rattle.match_graph.specs.Graph.{IsGraph, graph_web, left_of, nodes_of}
 use Rattle.match_rounds.specs.declared.classes.Classes.{Classes}

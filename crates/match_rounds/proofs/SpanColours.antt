@@ -9,7 +9,7 @@ use Rattle.round_laws.specs.Web.{Port, same_port, End}
 use Rattle.round_laws.specs.Colours.{changed_ends, ends_of, SplitsBy}
 use Rattle.round_laws.proofs.Agree.{count_same, count_none, first, second}
 use Rattle.round_laws.proofs.Fast.{count-filter}
-use Rattle.part_laws.proofs.Few.{few}
+use Rattle.round_laws.proofs.Few.{few}
 use Rattle.match_graph.specs.declared.graph.Graph.{Graph}
 use Rattle.match_graph.specs.Graph.{IsGraph, graph_web, ends_at, nodes_of}
 use Rattle.match_rounds.specs.declared.classes.Classes.{Classes}

@@ -2,7 +2,7 @@
 use Rattle.std.specs.Prelude.{◌<◌, ◌≤◌, ◌-◌, ℕ, Bool, true, false, List, length, take}
 use Rattle.round_laws.specs.Web.{Web, IsEven, IsStable, IsRefuted}
 use Rattle.round_laws.specs.Colours.{AreColours}
-use Rattle.part_laws.specs.Parting.{IsCoarse, IsFine, with_guess}
+use Rattle.round_laws.specs.Parting.{IsCoarse, IsFine, with_guess}
 use Rattle.match_graph.specs.declared.graph.Graph.{Graph}
 use Rattle.match_graph.specs.Graph.{left_of, nodes_of}
 use Rattle.match_rounds.specs.declared.classes.Classes.{Classes}

@@ -3,7 +3,7 @@ use Rattle.std.specs.Prelude.{◌≡◌, ◌↔◌, ◌<◌, ◌≤◌, ℕ, Lis
 use Rattle.std.specs.List.{flat_map}
 use Rattle.round_laws.specs.Web.{Port}
 use Rattle.round_laws.specs.Colours.{SplitsBy}
-use Rattle.part_laws.specs.Parting.{IsParted}
+use Rattle.round_laws.specs.Parting.{IsParted}
 use Rattle.match_graph.specs.declared.graph.Graph.{Graph}
 use Rattle.match_graph.specs.Graph.{graph_web, ends_at}
 use Rattle.match_rounds.specs.declared.classes.Classes.{Classes}

@@ -1,4 +1,4 @@
-//! The nodes of two circuits, told apart by rounds.
+//! The nodes of two circuits told apart by rounds: refinement of a partition, exact, not by a hash.
 #![tactic(auto)]
 
 mod classes;

@@ -6,7 +6,7 @@ use net_names::Name;
 use plain_netlist::DeviceKind;
 use std::alloc::{AllocError, Global};
 
-pub fn name(alloc: Global, text: &[u8]) -> Result<Name, AllocError> {
+fn name(alloc: Global, text: &[u8]) -> Result<Name, AllocError> {
     match Name::from_bytes(alloc, text)? {
         Some(name) => Ok(name),
         None => Ok(Name::from_vec(vec![in alloc; b'-']?)),

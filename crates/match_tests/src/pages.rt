@@ -9,7 +9,7 @@ use spice_text::read_spice;
 use std::alloc::{AllocError, Global};
 use std::test::Fail;
 use view_cross::{Kind, Mark, Row};
-use view_page::{Places, push_page};
+use view_page::{Book, Places, push_page};
 use view_pairs::proposals;
 
 // A layout and a schematic whose circuits are pairs by place, and of the last pair the marks of its
@@ -219,16 +219,14 @@ fn comes_out(alloc: Global, case: &Case) -> Result<bool, Fail> {
     let names = names_of(alloc, &left.circuits)?;
     let places = places_of(alloc, &left.circuits)?;
     let mut page = Vec::new(alloc);
-    push_page(
-        alloc,
-        &mut page,
-        1000,
-        &names,
-        &left.circuits,
-        &right.circuits,
-        &rows,
-        &places,
-    )?;
+    let book = Book {
+        unit: 1000,
+        names: &names,
+        lefts: &left.circuits,
+        rights: &right.circuits,
+        places: &places,
+    };
+    push_page(alloc, &mut page, book, &rows)?;
     let mut want = Vec::new(alloc);
     want.extend_from_slice(HEAD.as_bytes())?;
     want.extend_from_slice(case.page.as_bytes())?;

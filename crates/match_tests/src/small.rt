@@ -2,10 +2,9 @@
 
 ghost use Rattle.std.specs.Prelude.{◌<◌};
 
-use crate::answers::is_matched;
 use crate::builders::{circuit, transistor};
 use crate::fitting::{compare, is_match};
-use match_types::{ChildPins, Pairing};
+use match_types::{Answer, ChildPins, Pairing};
 use net_model::Circuit;
 use std::alloc::{AllocError, Global};
 
@@ -72,6 +71,15 @@ fn has_match(alloc: Global, left: &Circuit, right: &Circuit) -> Result<bool, All
         }
     }
     Ok(false)
+}
+
+// Whether a pair is a match, where it is one or a difference.
+fn is_matched(answer: Option<Answer>) -> Option<bool> {
+    match answer {
+        Some(Answer::Match(_pairing)) => Some(true),
+        Some(Answer::Differs(_evidence)) => Some(false),
+        _other => None,
+    }
 }
 
 // Small pairs are matched exactly where one of all maps is a correspondence.

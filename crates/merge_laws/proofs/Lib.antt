@@ -5,3 +5,6 @@ pub mod Totals
 pub mod Nets
 pub mod Expands
 pub mod Kept
+pub mod Roots
+pub mod Listed
+pub mod NoneLost

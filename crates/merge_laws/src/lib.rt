@@ -5,8 +5,12 @@
 //! runs here; each law is the contract of a function with an empty body.
 #![tactic(auto)]
 
+mod whole;
+
 ghost use Rattle.merge_laws.specs.Grouped.{AlikeLaw, AlikeBackLaw, UnlikeLaw, MergedSameLaw};
 ghost use Rattle.merge_laws.specs.Grouped.{MergedExpandsLaw, NormalMergedLaw, SoundMergedLaw};
+
+pub use whole::whole_netlists;
 
 /// Flat netlists that are the same stay so when merged.
 pub fn merged_flats()

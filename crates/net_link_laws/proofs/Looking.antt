@@ -14,7 +14,7 @@ use Rattle.geo_base.specs.declared.shapes.Rect.{Rect}
 use Rattle.geo_base.specs.declared.shapes.Square.{Square}
 use Rattle.net_link_laws.proofs.Held.{own_held, own_holds, child_held_at, child_holds, square_below, conductor}
 use Rattle.net_link_laws.specs.Laws.{OwnLaw, BesideLaw, ContactLaw, AlikeLaw, ChildrenLaw, HullLaw}
-use Rattle.net_link_laws.specs.Windows.{grown, common}
+use Rattle.geo_base.specs.Rects.{grown, common}
 
 pub own_links : OwnLaw
 own_links d w t cell c r e s is is_too = (
@@ -47,11 +47,11 @@ own_links d w t cell c r e s is is_too = (
   }),
 )
 
-pub in_grown : (r : Rect) (p : Square) → IsIn p r → IsIn p (grown r)
+pub in_grown : (r : Rect) (p : Square) → IsIn p r → IsIn p (grown 1 r)
 in_grown r p (a, b, c, e) = (omega (arith, ints), omega (arith, ints), omega (arith, ints), omega (arith, ints))
 
-pub near_grown : (r : Rect) (p q : Square) → IsIn p r → IsNear p q → IsIn q (grown r)
-near_grown r p q h (inl e) = subst (λ (s : Square). IsIn s (grown r)) e (in_grown r p h)
+pub near_grown : (r : Rect) (p q : Square) → IsIn p r → IsNear p q → IsIn q (grown 1 r)
+near_grown r p q h (inl e) = subst (λ (s : Square). IsIn s (grown 1 r)) e (in_grown r p h)
 near_grown r p q (a, b, c, e) (inr (inl (x, inl y))) = (omega (arith, ints), omega (arith, ints), omega (arith, ints), omega (arith, ints))
 near_grown r p q (a, b, c, e) (inr (inl (x, inr y))) = (omega (arith, ints), omega (arith, ints), omega (arith, ints), omega (arith, ints))
 near_grown r p q (a, b, c, e) (inr (inr (y, inl x))) = (omega (arith, ints), omega (arith, ints), omega (arith, ints), omega (arith, ints))
@@ -199,6 +199,6 @@ hulls d t p q one other hull hull_too c e x y m n h g near =
     let b = moved_square q.motion n in
     let in_one = hull c x m h in
     let in_other = hull_too e y n g in (
-      in_common (grown one) (grown other) a (in_grown one a in_one) (near_grown other b a in_other (near_back a b near)),
-      in_common (grown one) (grown other) b (near_grown one a b in_one near) (in_grown other b in_other),
+      in_common (grown 1 one) (grown 1 other) a (in_grown one a in_one) (near_grown other b a in_other (near_back a b near)),
+      in_common (grown 1 one) (grown 1 other) b (near_grown one a b in_one near) (in_grown other b in_other),
     )

@@ -13,7 +13,8 @@ use Rattle.net_link_laws.specs.declared.piece.NetPiece.{NetPiece}
 use Rattle.net_link_laws.specs.Collected.{IsInNet, AreCollected, IsCollectedBelow, IsOver}
 use Rattle.net_link_laws.specs.Collected.{IsOverOwn, IsOverChild}
 use Rattle.net_link_laws.specs.Found.{IsFoundLink, IsSquareLink, AreItemLinks, AreAllFound}
-use Rattle.net_link_laws.specs.Windows.{grown, common, AreSeen, IsOwnAt, IsEnoughFor, IsHullOf}
+use Rattle.net_link_laws.specs.Windows.{AreSeen, IsOwnAt, IsEnoughFor, IsHullOf}
+use Rattle.geo_base.specs.Rects.{grown, common}
 use Rattle.net_link_laws.specs.Windows.{AreInContact, AreMovedAlike, AreOwnInTouch}
 use Rattle.net_link_laws.specs.Windows.{IsOwnBesideChild, AreChildrenInTouch}
 use Rattle.plain_netlist.specs.Chains.{Reaches}
@@ -71,7 +72,7 @@ abbrev pub BesideLaw : Type 0
 BesideLaw = (d : Design) (w : Wiring) (t : Tables) (cell c r k x : ℕ) (p : Place) (rect : Rect)
     (pieces : ℕ → List NetPiece)
     → IsItem d w t cell (Own c r) → IsPlaced d cell k p → IsItem d w t cell (Child k x)
-    → IsOwnAt t cell c r rect → AreSeen d t p (grown rect) (IsJoined w c) pieces
+    → IsOwnAt t cell c r rect → AreSeen d t p (grown 1 rect) (IsJoined w c) pieces
     → IsSquareLink d w t cell (Own c r) (Child k x) ↔ IsOwnBesideChild w t cell c r p pieces x
 
 -- two placed cells' nets are linked by squares where they are in contact
@@ -95,7 +96,7 @@ ChildrenLaw = (d : Design) (w : Wiring) (t : Tables) (x y : ℕ) (p q : Place) (
     → AreSeen d t q window (λ c. c < length w.conductors) others
     → AreInContact d w t p q x y ↔ AreChildrenInTouch w p q pieces others x y
 
--- the common part of two hulls, each grown by one square, is enough
+-- the common part of two hulls, each grown 1 by one square, is enough
 abbrev pub HullLaw : Type 0
 HullLaw = (d : Design) (t : Tables) (p q : Place) (one other : Rect) → IsHullOf d t p one
-    → IsHullOf d t q other → IsEnoughFor d t p q (common (grown one) (grown other))
+    → IsHullOf d t q other → IsEnoughFor d t p q (common (grown 1 one) (grown 1 other))

@@ -1,5 +1,6 @@
 -- The windows in which touching squares are looked for.
 use Rattle.std.specs.Prelude.{◌≡◌, ℕ, pos, ◌+ℤ◌, ◌-ℤ◌, ◌<◌, List, Some, slice_get, length}
+use Rattle.geo_base.specs.Rects.{common, grown}
 use Rattle.std.specs.Int.{int_min, int_max}
 use Rattle.flat_layout.specs.Layout.{Design, Place}
 use Rattle.flat_layout.specs.Nets.{Tables, NetHolds}
@@ -11,20 +12,6 @@ use Rattle.geo_base.specs.declared.shapes.Rect.{Rect}
 use Rattle.geo_base.specs.declared.shapes.Square.{Square}
 use Rattle.net_link_laws.specs.declared.piece.NetPiece.{NetPiece}
 use Rattle.net_link_laws.specs.Collected.{IsWindowBelow, IsOver, AreCollected}
-
--- one square more on each side
-abbrev pub grown : Rect → Rect
-grown r = record { x1 = r.x1 -ℤ pos 1; y1 = r.y1 -ℤ pos 1; x2 = r.x2 +ℤ pos 1; y2 = r.y2 +ℤ pos 1 }
-
--- what two rectangles have in common; sides may stand in no order where they have nothing
-abbrev pub common : Rect → Rect → Rect
-common r s = record {
-  x1 = int_max r.x1 s.x1;
-  y1 = int_max r.y1 s.y1;
-  x2 = int_min r.x2 s.x2;
-  y2 =
-      int_min r.y2 s.y2;
-}
 
 -- rectangles of the cell itself that touch
 pub record AreOwnInTouch (w : Wiring) (t : Tables) (cell c r e s : ℕ) : Type 0 where

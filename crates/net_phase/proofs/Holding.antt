@@ -5,7 +5,8 @@ use Rattle.std.specs.Int.{int_max, int_min}
 use Rattle.cell_context.proofs.Collecting.{hull_has, no_hull}
 use Rattle.cell_graph.proofs.Bridge.{has_in, hull_sound, step_of}
 use Rattle.cell_graph.proofs.Growing.{grown_frame, grown_up}
-use Rattle.cell_graph.specs.Grown.{IsInGrown, grown as widened}
+use Rattle.cell_graph.specs.Grown.{IsInGrown}
+use Rattle.geo_base.specs.Rects.{grown, IsRect, has, moved_rect}
 use Rattle.cell_graph.specs.Linked.{HullHas, HullIsSound, IsFrame, IsRectWithin, IsSound, Linked, cell_at, hull_of, motion_at, plain}
 use Rattle.flat_layout.specs.Layout.{IsPlaced, Place}
 use Rattle.flat_layout.specs.Nets.{Child, Global, HoldsAt, Item, NetHolds, Own, Tables}
@@ -16,12 +17,10 @@ use Rattle.geo_base.specs.Motions.{moved_square, turned}
 use Rattle.geo_base.specs.declared.motion.Turn.{Turn}
 use Rattle.geo_base.specs.declared.motion.Turn.TheVariants.{R0, R90, R180, R270, M0, M90, M180, M270}
 use Rattle.geo_base.specs.Near.{IsNearMotion, IsNearRect, IsWithin}
-use Rattle.geo_base.specs.Rects.{IsRect, has, moved_rect}
 use Rattle.geo_base.specs.declared.motion.Motion.{Motion}
 use Rattle.geo_base.specs.declared.shapes.Point.{Point}
 use Rattle.geo_base.specs.declared.shapes.Rect.{Rect}
 use Rattle.geo_base.specs.declared.shapes.Square.{Square}
-use Rattle.net_link_laws.specs.Windows.{grown}
 use Rattle.net_walk.proofs.Insides.{all_in, in_of}
 use Rattle.net_walk.specs.Walk.{AreNearOwn, HasNoSquare, HaveArea, IsClose, IsHull as IsNetHull, IsInside, IsSpan, place_of}
 use Rattle.net_walk.specs.declared.cells.Element.{Element}
@@ -53,7 +52,7 @@ high_near a b d h k g =
     record { low = omega (arith, ints, clamps); high = omega (arith, ints, clamps) }
 
 -- the image of a bound is near
-span_near : (m : Motion) (h : Rect) → IsClose m → IsRectWithin (2 ^ 37) h → IsNearRect (grown (moved_rect m h))
+span_near : (m : Motion) (h : Rect) → IsClose m → IsRectWithin (2 ^ 37) h → IsNearRect (grown 1 (moved_rect m h))
 span_near m h close near =
     let low : Point = record { x = h.x1; y = h.y1 } in
     let high : Point = record { x = h.x2; y = h.y2 } in
@@ -81,7 +80,7 @@ near_frame h is =
     wide : (z : ℤ) → IsWithin (2 ^ 37) z → IsWithin (2 ^ 40) z
     wide z w = let l = w.low in let u = w.high in record { low = omega (arith, ints); high = omega (arith, ints) }
 
--- what bounds a cell's nets is the grown hull
+-- what bounds a cell's nets is the grown 1 hull
 pub to_bound : (n : ℕ) (o : Option Rect) (q : Square) → IsInGrown n o q → HullHas (bound_by n o) q
 to_bound n None q h = h
 to_bound n (Some r) q h = h
@@ -93,7 +92,7 @@ of_bound n (Some r) q h = h
 bound_frame : (n : ℕ) (o : Option Rect) (h : Rect) → n ≤ 10000 → HullIsSound o → Some h ≡ bound_by n o → IsFrame h
 bound_frame n None h most sound e = absurd (let z : ⊥ = cc in z)
 bound_frame n (Some r) h most sound e =
-    let same : widened n r ≡ h = (let f : Some h ≡ Some (widened n r) = e in cc) in
+    let same : grown n r ≡ h = (let f : Some h ≡ Some (grown n r) = e in cc) in
     subst IsFrame same (grown_frame n r (omega (arith, most)) sound)
 
 pub bound_is : (n : ℕ) (d : Linked) (cell : ℕ) (h : Rect) → n ≤ 10000 → IsSound d → Some h ≡ bound_of n d cell → IsFrame h
@@ -204,7 +203,7 @@ module _ (n : ℕ) (most : n ≤ 10000) (d : Linked) (t : Tables) (all : List (L
       between : (a b z : ℤ) → a ≤ℤ z → z ≤ℤ b → IsWithin (2 ^ 37) a → IsWithin (2 ^ 37) b → IsWithin (2 ^ 37) z
       between a b z lo hi wa wb = let l = wa.low in let u = wb.high in record { low = omega (arith, ints); high = omega (arith, ints) }
 
-      by_hull : (hull : Option Rect) (o : Rect) → IsRect o → FrameIsSound hull → ((q : Square) → IsIn q o → HullHas hull q) → IsNearRect (grown o)
+      by_hull : (hull : Option Rect) (o : Rect) → IsRect o → FrameIsSound hull → ((q : Square) → IsIn q o → HullHas hull q) → IsNearRect (grown 1 o)
       by_hull None o some s f =
           let a = some.wide in let b = some.high in
           absurd (f (record { x = o.x1; y = o.y1 }) (omega (arith, ints), omega (arith, ints), omega (arith, ints), omega (arith, ints)))

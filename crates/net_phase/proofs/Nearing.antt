@@ -11,7 +11,7 @@ use Rattle.flat_layout.specs.Layout.{Place}
 use Rattle.flat_layout.specs.Nets.{NetHolds, Tables}
 use Rattle.flat_layout.specs.Regions.{At}
 use Rattle.geo_base.specs.Motions.{moved_square}
-use Rattle.geo_base.specs.Rects.{has}
+use Rattle.geo_base.specs.Rects.{has, meets}
 use Rattle.geo_base.specs.declared.shapes.Rect.{Rect}
 use Rattle.geo_base.specs.declared.shapes.Square.{Square}
 use Rattle.net_link_laws.specs.Places.{places_of}
@@ -20,8 +20,8 @@ use Rattle.net_walk.proofs.Walking.{as_long, element_at, no_element}
 use Rattle.net_walk.specs.Walk.{HasNoPart, place_of}
 use Rattle.net_walk.specs.Windows.{AreOwnNear, ArePlacesNear}
 use Rattle.net_walk.specs.declared.cells.Element.{Element}
-use Rattle.tile_index.proofs.Meeting.{meets_share, share_meets}
-use Rattle.tile_index.specs.Windows.{ArePositions, meets}
+use Rattle.geo_base.proofs.Meeting.{meets_share, share_meets}
+use Rattle.tile_index.specs.Windows.{ArePositions}
 use Rattle.net_phase.specs.Elements.{element_lists}
 use Rattle.rule_text.specs.Rules.{Rules}
 use Rattle.net_phase.specs.Indexes.{AreIndexes, span_of, spans_of}

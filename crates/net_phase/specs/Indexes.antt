@@ -1,9 +1,8 @@
 -- Indexes of what stands in cells.
 use Rattle.std.specs.Prelude.{◌≡◌, ◌≤◌, ℕ, pos, List, Option, Some, None, map}
 use Rattle.std.specs.Global.{Vec}
-use Rattle.geo_base.specs.Rects.{moved_rect}
+use Rattle.geo_base.specs.Rects.{moved_rect, grown}
 use Rattle.geo_base.specs.declared.shapes.Rect.{Rect}
-use Rattle.cell_graph.specs.Grown.{grown}
 use Rattle.cell_graph.specs.Linked.{Linked, cell_at, hull_of}
 use Rattle.flat_layout.specs.Layers.{reach}
 use Rattle.flat_layout.specs.Regions.{formula}

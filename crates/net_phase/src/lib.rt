@@ -1,4 +1,4 @@
-//! The nets of each cell.
+//! The nets of each cell: connectivity, extracted in the hierarchy.
 #![tactic(auto)]
 
 mod bare;

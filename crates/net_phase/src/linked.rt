@@ -8,7 +8,8 @@ ghost use Rattle.net_link_laws.specs.Places.{places_of};
 ghost use Rattle.net_walk.specs.Beside.{AddsBeside};
 ghost use Rattle.net_walk.specs.Pairs.{AddsChildren, AddsPairs};
 ghost use Rattle.net_phase.specs.Below.{tables_seen, wiring_seen};
-ghost use Rattle.net_phase.specs.Linked.{AreApartLinks, AreSquareLinks, IsLinkable};
+ghost use Rattle.net_walk.specs.Placed.{IsLinkable};
+ghost use Rattle.net_phase.specs.Linked.{AreApartLinks, AreSquareLinks};
 ghost use Rattle.net_phase.specs.Wires.{AreWires};
 
 use crate::below::Below;
@@ -16,11 +17,11 @@ use crate::wires::Wires;
 use job_board::Crew;
 use link_classes::Link;
 use net_walk::{
-    all_beside, all_links, enough_pairs, first_places, global_links, link_pairs, own_links,
+    GlobalItems, LinkSite, all_beside, all_links, enough_pairs, first_places, global_links,
+    link_pairs, own_links,
 };
 use std::alloc::{AllocError, Global};
 use std::thread::Threads;
-use touching_pieces::Joined;
 
 /// Whether a cell has so many items that a further thread costs less than it gives: 10,000 or more.
 pub fn is_large(items: usize) -> bool {
@@ -36,19 +37,18 @@ fn half<'a, R: Threads, G>(crew: &Crew<'a, R, G>) -> Crew<'a, R, G> {
 fn some_placed(
     alloc: Global,
     below: &Below,
-    cell: u32,
+    site: &LinkSite<'_>,
     pairs: &[Link],
-    firsts: &[u32],
-    joins: &[Joined],
 ) -> Result<Vec<Link>, AllocError>
-    requires pairs { AreInRange (length (places_of (plain below.now.design) cell)) pairs.now }
+    requires pairs { AreInRange (length (places_of (plain below.now.design) site.now.cell))
+        pairs.now }
     requires site { IsLinkable (plain below.now.design) (wiring_seen below.now)
-        (tables_seen below.now) cell firsts.now joins.now }
+        (tables_seen below.now) site.now }
     ensures { IfOk result (λ v. AddsPairs (plain below.now.design) (wiring_seen below.now)
-        (tables_seen below.now) cell pairs.now [] v.items) }
+        (tables_seen below.now) site.now.cell pairs.now [] v.items) }
 {
     let mut links = Vec::new(alloc);
-    link_pairs(alloc, below, cell, pairs, firsts, joins, &mut links)?;
+    link_pairs(alloc, below, site, pairs, &mut links)?;
     Ok(links)
 }
 
@@ -56,38 +56,38 @@ fn some_placed(
 fn both_halves<R: Threads, G>(
     alloc: Global,
     below: &Below,
-    cell: u32,
+    site: &LinkSite<'_>,
     some: &[Link],
     others: &[Link],
-    firsts: &[u32],
-    joins: &[Joined],
     crew: &Crew<R, G>,
 ) -> Result<(Vec<Link>, Vec<Link>), AllocError>
-    requires some { AreInRange (length (places_of (plain below.now.design) cell)) some.now }
-    requires others { AreInRange (length (places_of (plain below.now.design) cell)) others.now }
+    requires some { AreInRange (length (places_of (plain below.now.design) site.now.cell))
+        some.now }
+    requires others { AreInRange (length (places_of (plain below.now.design) site.now.cell))
+        others.now }
     requires site { IsLinkable (plain below.now.design) (wiring_seen below.now)
-        (tables_seen below.now) cell firsts.now joins.now }
+        (tables_seen below.now) site.now }
     ensures some { IfOk result (λ v. AddsPairs (plain below.now.design) (wiring_seen below.now)
-        (tables_seen below.now) cell some.now [] v.0.items) }
+        (tables_seen below.now) site.now.cell some.now [] v.0.items) }
     ensures others { IfOk result (λ v. AddsPairs (plain below.now.design) (wiring_seen below.now)
-        (tables_seen below.now) cell others.now [] v.1.items) }
+        (tables_seen below.now) site.now.cell others.now [] v.1.items) }
 {
     let first = move || -> Result<Vec<Link>, AllocError>
-        requires { AreInRange (length (places_of (plain below.now.design) cell)) some.now
-            × IsLinkable (plain below.now.design) (wiring_seen below.now) (tables_seen below.now)
-            cell firsts.now joins.now }
+        requires { AreInRange (length (places_of (plain below.now.design) site.now.cell)) some.now
+            × IsLinkable (plain below.now.design) (wiring_seen below.now)
+            (tables_seen below.now) site.now }
         ensures { IfOk result (λ v. AddsPairs (plain below.entry.now.design)
-            (wiring_seen below.entry.now) (tables_seen below.entry.now) cell some.entry.now []
-            v.items) }
-    { some_placed(alloc, below, cell, some, firsts, joins) };
+            (wiring_seen below.entry.now) (tables_seen below.entry.now) site.entry.now.cell
+            some.entry.now [] v.items) }
+    { some_placed(alloc, below, site, some) };
     let second = move || -> Result<Vec<Link>, AllocError>
-        requires { AreInRange (length (places_of (plain below.now.design) cell)) others.now
-            × IsLinkable (plain below.now.design) (wiring_seen below.now) (tables_seen below.now)
-            cell firsts.now joins.now }
+        requires { AreInRange (length (places_of (plain below.now.design) site.now.cell)) others.now
+            × IsLinkable (plain below.now.design) (wiring_seen below.now)
+            (tables_seen below.now) site.now }
         ensures { IfOk result (λ v. AddsPairs (plain below.entry.now.design)
-            (wiring_seen below.entry.now) (tables_seen below.entry.now) cell others.entry.now []
-            v.items) }
-    { some_placed(alloc, below, cell, others, firsts, joins) };
+            (wiring_seen below.entry.now) (tables_seen below.entry.now) site.entry.now.cell
+            others.entry.now [] v.items) }
+    { some_placed(alloc, below, site, others) };
     let (one, other) = crew.both(first, second);
     Ok((one?, other?))
 }
@@ -96,20 +96,18 @@ fn both_halves<R: Threads, G>(
 fn placed_links<R: Threads, G>(
     alloc: Global,
     below: &Below,
-    cell: u32,
-    firsts: &[u32],
-    joins: &[Joined],
+    site: &LinkSite<'_>,
     crew: &Crew<R, G>,
 ) -> Result<Vec<Link>, AllocError>
     requires site { IsLinkable (plain below.now.design) (wiring_seen below.now)
-        (tables_seen below.now) cell firsts.now joins.now }
+        (tables_seen below.now) site.now }
     ensures { IfOk result (λ v. AddsChildren (plain below.now.design) (wiring_seen below.now)
-        (tables_seen below.now) cell [] v.items) }
+        (tables_seen below.now) site.now.cell [] v.items) }
 {
-    let found = enough_pairs(alloc, below, cell)?;
+    let found = enough_pairs(alloc, below, site.cell)?;
     let pairs = found.as_slice();
     let (some, others) = pairs.split_at(pairs.len() / 2);
-    let halves = both_halves(alloc, below, cell, some, others, firsts, joins, crew)?;
+    let halves = both_halves(alloc, below, site, some, others, crew)?;
     let mut links = halves.0;
     links.extend_from_slice(&halves.1)?;
     Ok(links)
@@ -119,37 +117,29 @@ fn placed_links<R: Threads, G>(
 fn apart_links<R: Threads, G>(
     alloc: Global,
     below: &Below,
-    cell: u32,
-    firsts: &[u32],
-    joins: &[Joined],
+    site: &LinkSite<'_>,
     crew: &Crew<R, G>,
 ) -> Result<Vec<Link>, AllocError>
     requires site { IsLinkable (plain below.now.design) (wiring_seen below.now)
-        (tables_seen below.now) cell firsts.now joins.now }
+        (tables_seen below.now) site.now }
     ensures { IfOk result (λ v. AreApartLinks (plain below.now.design) (wiring_seen below.now)
-        (tables_seen below.now) cell v.items) }
+        (tables_seen below.now) site.now.cell v.items) }
 {
-    let mut links = own_links(alloc, below, cell, joins)?;
-    let further = placed_links(alloc, below, cell, firsts, joins, crew)?;
+    let mut links = own_links(alloc, below, site.cell, site.joins)?;
+    let further = placed_links(alloc, below, site, crew)?;
     links.extend_from_slice(&further)?;
     Ok(links)
 }
 
 // Links of rectangles and the nets of placements.
-fn beside_links(
-    alloc: Global,
-    below: &Below,
-    cell: u32,
-    firsts: &[u32],
-    joins: &[Joined],
-) -> Result<Vec<Link>, AllocError>
+fn beside_links(alloc: Global, below: &Below, site: &LinkSite<'_>) -> Result<Vec<Link>, AllocError>
     requires site { IsLinkable (plain below.now.design) (wiring_seen below.now)
-        (tables_seen below.now) cell firsts.now joins.now }
+        (tables_seen below.now) site.now }
     ensures { IfOk result (λ v. AddsBeside (plain below.now.design) (wiring_seen below.now)
-        (tables_seen below.now) cell [] v.items) }
+        (tables_seen below.now) site.now.cell [] v.items) }
 {
     let mut links = Vec::new(alloc);
-    all_beside(alloc, below, cell, firsts, joins, &mut links)?;
+    all_beside(alloc, below, site, &mut links)?;
     Ok(links)
 }
 
@@ -157,31 +147,31 @@ fn beside_links(
 fn both_kinds<R: Threads, G>(
     alloc: Global,
     below: &Below,
-    cell: u32,
-    firsts: &[u32],
-    joins: &[Joined],
+    site: &LinkSite<'_>,
     crew: &Crew<R, G>,
 ) -> Result<(Vec<Link>, Vec<Link>), AllocError>
     requires site { IsLinkable (plain below.now.design) (wiring_seen below.now)
-        (tables_seen below.now) cell firsts.now joins.now }
+        (tables_seen below.now) site.now }
     ensures apart { IfOk result (λ v. AreApartLinks (plain below.now.design) (wiring_seen below.now)
-        (tables_seen below.now) cell v.0.items) }
+        (tables_seen below.now) site.now.cell v.0.items) }
     ensures beside { IfOk result (λ v. AddsBeside (plain below.now.design) (wiring_seen below.now)
-        (tables_seen below.now) cell [] v.1.items) }
+        (tables_seen below.now) site.now.cell [] v.1.items) }
 {
     let few = &half(crew);
     let beside = move || -> Result<Vec<Link>, AllocError>
         requires { IsLinkable (plain below.now.design) (wiring_seen below.now)
-            (tables_seen below.now) cell firsts.now joins.now }
+            (tables_seen below.now) site.now }
         ensures { IfOk result (λ v. AddsBeside (plain below.entry.now.design)
-            (wiring_seen below.entry.now) (tables_seen below.entry.now) cell [] v.items) }
-    { beside_links(alloc, below, cell, firsts, joins) };
+            (wiring_seen below.entry.now) (tables_seen below.entry.now) site.entry.now.cell []
+            v.items) }
+    { beside_links(alloc, below, site) };
     let apart = move || -> Result<Vec<Link>, AllocError>
         requires { IsLinkable (plain below.now.design) (wiring_seen below.now)
-            (tables_seen below.now) cell firsts.now joins.now }
+            (tables_seen below.now) site.now }
         ensures { IfOk result (λ v. AreApartLinks (plain below.entry.now.design)
-            (wiring_seen below.entry.now) (tables_seen below.entry.now) cell v.items) }
-    { apart_links(alloc, below, cell, firsts, joins, few) };
+            (wiring_seen below.entry.now) (tables_seen below.entry.now) site.entry.now.cell
+            v.items) }
+    { apart_links(alloc, below, site, few) };
     let (beside, apart) = crew.both(beside, apart);
     Ok((apart?, beside?))
 }
@@ -190,17 +180,15 @@ fn both_kinds<R: Threads, G>(
 fn square_links<R: Threads, G>(
     alloc: Global,
     below: &Below,
-    cell: u32,
-    firsts: &[u32],
-    joins: &[Joined],
+    site: &LinkSite<'_>,
     crew: &Crew<R, G>,
 ) -> Result<Vec<Link>, AllocError>
     requires site { IsLinkable (plain below.now.design) (wiring_seen below.now)
-        (tables_seen below.now) cell firsts.now joins.now }
+        (tables_seen below.now) site.now }
     ensures { IfOk result (λ v. AreSquareLinks (plain below.now.design) (wiring_seen below.now)
-        (tables_seen below.now) cell v.items) }
+        (tables_seen below.now) site.now.cell v.items) }
 {
-    let kinds = both_kinds(alloc, below, cell, firsts, joins, crew)?;
+    let kinds = both_kinds(alloc, below, site, crew)?;
     let mut links = kinds.0;
     links.extend_from_slice(&kinds.1)?;
     Ok(links)
@@ -238,15 +226,17 @@ pub fn cell_links<R: Threads, G>(
         );
     }
     let firsts = first_places(alloc, below, cell)?;
-    let mut links = square_links(alloc, below, cell, &firsts, &wires.joins, crew)?;
-    global_links(
-        below,
+    let site = LinkSite {
         cell,
-        &firsts,
-        &wires.grounds,
-        globals,
-        count - globals,
-        &mut links,
-    )?;
+        firsts: &firsts,
+        joins: &wires.joins,
+    };
+    let mut links = square_links(alloc, below, &site, crew)?;
+    let globals = GlobalItems {
+        cell,
+        count: globals,
+        at: count - globals,
+    };
+    global_links(below, &globals, &firsts, &wires.grounds, &mut links)?;
     Ok(links)
 }

@@ -6,12 +6,11 @@ use Rattle.std.proofs.lemmas.List.{get_or_default, take_more}
 use Rattle.std.proofs.lemmas.Option.{slice_get-get_or}
 use Rattle.flat_layout.specs.Plane.{IsIn}
 use Rattle.geo_base.specs.Motions.{moved_square}
-use Rattle.geo_base.specs.Rects.{has, IsRect}
+use Rattle.geo_base.specs.Rects.{has, IsRect, common}
 use Rattle.geo_base.specs.declared.motion.Motion.{Motion}
 use Rattle.geo_base.specs.declared.shapes.Rect.{Rect}
 use Rattle.geo_base.specs.declared.shapes.Square.{Square}
 use Rattle.net_link_laws.specs.Collected.{IsOver}
-use Rattle.net_link_laws.specs.Windows.{common}
 use Rattle.net_link_laws.specs.declared.piece.NetPiece.{NetPiece}
 use Rattle.net_walk.proofs.Insides.{in_common, common_in, rect_of, common_inside, all_in, in_inside, moved_in, from_in}
 use Rattle.net_walk.specs.Walk.{IsInside, AreInside, AddsPieces, IsClipped, IsOfOwn, IsOfOwnAt, IsOfMoved, AreListed}

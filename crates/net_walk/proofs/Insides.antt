@@ -8,11 +8,10 @@ use Rattle.flat_laws.proofs.Moves.{onto}
 use Rattle.flat_layout.specs.Plane.{IsIn}
 use Rattle.geo_base.specs.Motions.{moved_square}
 use Rattle.geo_base.specs.Near.{IsNear, IsNearRect}
-use Rattle.geo_base.specs.Rects.{is_between, has, IsRect}
+use Rattle.geo_base.specs.Rects.{is_between, has, IsRect, common}
 use Rattle.geo_base.specs.declared.motion.Motion.{Motion}
 use Rattle.geo_base.specs.declared.shapes.Rect.{Rect}
 use Rattle.geo_base.specs.declared.shapes.Square.{Square}
-use Rattle.net_link_laws.specs.Windows.{common}
 use Rattle.net_walk.specs.Walk.{IsInside, IsPartIn}
 
 pub in_of : (r : Rect) (s : Square) → has r s ≡ true → IsIn s r

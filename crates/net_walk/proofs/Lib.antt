@@ -21,3 +21,4 @@ pub mod Motions
 pub mod Leading
 pub mod Partnering
 pub mod Enough
+pub mod Siting

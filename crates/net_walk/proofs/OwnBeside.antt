@@ -6,7 +6,7 @@ use Rattle.flat_layout.specs.Nets.{Own, Tables, ItemHolds, items_of}
 use Rattle.flat_layout.specs.Plane.{IsIn, IsNear}
 use Rattle.flat_layout.specs.Regions.{At}
 use Rattle.geo_base.specs.Motions.{moved_square}
-use Rattle.geo_base.specs.Rects.{IsRect}
+use Rattle.geo_base.specs.Rects.{IsRect, grown}
 use Rattle.geo_base.specs.declared.shapes.Rect.{Rect}
 use Rattle.geo_base.specs.declared.shapes.Square.{Square}
 use Rattle.net_link_laws.proofs.Held.{own_held, own_holds, child_held_at, square_below, conductor}
@@ -14,7 +14,6 @@ use Rattle.net_link_laws.proofs.Looking.{near_grown, same_rect}
 use Rattle.net_link_laws.proofs.Standing.{own_place}
 use Rattle.net_link_laws.specs.Found.{IsSquareLink}
 use Rattle.net_link_laws.specs.Places.{owned_before}
-use Rattle.net_link_laws.specs.Windows.{grown}
 use Rattle.net_walk.proofs.Pairing.{HoldsSquare, seen_item}
 use Rattle.net_walk.proofs.Seeing.{piece_seen, seen_both}
 use Rattle.net_walk.specs.Beside.{IsBesideSeen, BesidePairLaw}
@@ -27,11 +26,11 @@ use Rattle.touching_pieces.specs.declared.pieces.Piece.{Piece}
 own_holds_at : (d : Design) (t : Tables) (cell c r e : ℕ) (rect : Rect) (q : Square) → slice_get (t.own cell c) r ≡ Some rect → IsIn q rect → c ≡ e → ItemHolds d t cell (Own c r) (At e q)
 own_holds_at d t cell c r e rect q there inside same = subst (λ k. ItemHolds d t cell (Own c r) (At k q)) same (own_holds d t cell c r rect q there inside)
 
-pub beside_seen : (d : Design) (t : Tables) (joins : List Joined) (rect : Rect) (conductor item n : ℕ) (p : Place) (at : ℕ) (new : List Piece) → IsRect rect → AddsSeen (IsJoinedSeen d t joins conductor p (grown rect) at n) (record { conductor = conductor; rect = rect; item = item } ∷ []) new
+pub beside_seen : (d : Design) (t : Tables) (joins : List Joined) (rect : Rect) (conductor item n : ℕ) (p : Place) (at : ℕ) (new : List Piece) → IsRect rect → AddsSeen (IsJoinedSeen d t joins conductor p (grown 1 rect) at n) (record { conductor = conductor; rect = rect; item = item } ∷ []) new
     → AddsSeen (IsBesideSeen d t joins rect conductor item n p at) [] new
 beside_seen d t joins rect conductor item n p at new is h =
     let o : Piece = record { conductor = conductor; rect = rect; item = item } in
-    seen_both (λ c i q. (conductor ≡ c) × (item ≡ i) × IsIn q rect) (IsJoinedSeen d t joins conductor p (grown rect) at n) (IsBesideSeen d t joins rect conductor item n p at) [] (o ∷ []) new (piece_seen o [] is) h (λ c i q. ((λ k. k), (λ k. k)))
+    seen_both (λ c i q. (conductor ≡ c) × (item ≡ i) × IsIn q rect) (IsJoinedSeen d t joins conductor p (grown 1 rect) at n) (IsBesideSeen d t joins rect conductor item n p at) [] (o ∷ []) new (piece_seen o [] is) h (λ c i q. ((λ k. k), (λ k. k)))
 
 pub beside_known : (d : Design) (t : Tables) (joins : List Joined) (rect : Rect) (conductor item n : ℕ) (p : Place) (at : ℕ) → conductor < n → (c i : ℕ) (q : Square) → IsBesideSeen d t joins rect conductor item n p at c i q → c < n
 beside_known d t joins rect e item n p at lt c i q (inl h) = subst (λ k. k < n) h.0 lt
@@ -49,7 +48,7 @@ beside_pair d w t cell c r k p rect joins links right is there at_place same h =
         is = is;
         holds = own_holds_at d t cell c r e rect s there a.2 a.0;
       }
-      | inr b ↦ seen_item d w t cell k p (grown rect) n e i s right at_place b.1
+      | inr b ↦ seen_item d w t cell k p (grown 1 rect) n e i s right at_place b.1
     ] in
     record {
       each = λ i j g.
@@ -76,7 +75,7 @@ beside_pair d w t cell c r k p rect joins links right is there at_place same h =
           let near : IsNear l.p (moved_square p.motion b.square) = subst (λ (s : Square). IsNear l.p s) (sym b.image) l.near in
           let within = near_grown rect l.p (moved_square p.motion b.square) inside near in
           let known = conductor d w t p.cell x l.other b.square (λ e u. right.nets k e p placed u) b.holds in
-          let two : IsSeen d t p (grown rect) (first_of d w t cell k) n l.other (first_of d w t cell k + x) (moved_square p.motion b.square) = record { known = known; net = x; square = b.square; holds = b.holds; item = refl; image = refl; within = within } in
+          let two : IsSeen d t p (grown 1 rect) (first_of d w t cell k) n l.other (first_of d w t cell k + x) (moved_square p.motion b.square) = record { known = known; net = x; square = b.square; holds = b.holds; item = refl; image = refl; within = within } in
           h.found (owned_before t cell c + r) (first_of d w t cell k + x)
           (record { c = l.one; e = l.other; p = l.p; q = moved_square p.motion b.square; joined = (same l.one l.other).1 l.joined; over = inl (a.same, refl, inside); over_too = inr (subst (λ k. AreJoined joins k l.other) (sym a.same) ((same l.one l.other).1 l.joined), two); near = near });
     }

@@ -11,12 +11,11 @@ use Rattle.net_link_laws.proofs.Held.{child_holds, conductor}
 use Rattle.net_link_laws.proofs.Looking.{contact_links, hulls}
 use Rattle.net_walk.proofs.Insides.{common_inside, near_inside, rect_of}
 use Rattle.net_walk.specs.Walk.{IsSpan, HasNoSquare}
-use Rattle.geo_base.specs.Rects.{IsRect}
+use Rattle.geo_base.specs.Rects.{IsRect, common, grown}
 use Rattle.net_link_laws.proofs.Standing.{child_place}
 use Rattle.net_link_laws.specs.Found.{IsSquareLink}
 use Rattle.link_classes.specs.Classes.{IsLinked}
 use Rattle.link_classes.specs.declared.classes.Link.{Link}
-use Rattle.net_link_laws.specs.Windows.{common, grown}
 use Rattle.net_link_laws.specs.Places.{owned_before, nets_before, places_of}
 use Rattle.net_walk.specs.Pairs.{first_of, ArePairLinks, PairLaw, AddsPair, AreNeverNear, IsWindowFor}
 use Rattle.net_walk.specs.Seen.{IsSeen, IsSeenOfTwo}
@@ -106,13 +105,13 @@ pair_none d w t cell k l p q old there there_too none = record {
       absurd (none m.c m.e x y m.m m.n m.held m.others m.near);
 }
 
-pub window_for : (d : Design) (t : Tables) (p q : Place) (r s : Rect) → IsSpan d t p r → IsSpan d t q s → IsRect (common (grown r) (grown s)) → IsWindowFor d t p q (common (grown r) (grown s))
-window_for d t p q r s h g is = record { near = near_inside (common (grown r) (grown s)) (grown s) (common_inside (grown r) (grown s) is) g.near; enough = hulls d t p q r s h.all g.all }
+pub window_for : (d : Design) (t : Tables) (p q : Place) (r s : Rect) → IsSpan d t p r → IsSpan d t q s → IsRect (common (grown 1 r) (grown 1 s)) → IsWindowFor d t p q (common (grown 1 r) (grown 1 s))
+window_for d t p q r s h g is = record { near = near_inside (common (grown 1 r) (grown 1 s)) (grown 1 s) (common_inside (grown 1 r) (grown 1 s) is) g.near; enough = hulls d t p q r s h.all g.all }
 
-pub window_none : (d : Design) (t : Tables) (p q : Place) (r s : Rect) → IsSpan d t p r → IsSpan d t q s → (IsRect (common (grown r) (grown s)) → ⊥) → AreNeverNear d t p q
+pub window_none : (d : Design) (t : Tables) (p q : Place) (r s : Rect) → IsSpan d t p r → IsSpan d t q s → (IsRect (common (grown 1 r) (grown 1 s)) → ⊥) → AreNeverNear d t p q
 window_none d t p q r s h g not c e x y m n held others near =
     let both = hulls d t p q r s h.all g.all c e x y m n held others near in
-    not (rect_of (common (grown r) (grown s)) (moved_square p.motion m) both.0)
+    not (rect_of (common (grown 1 r) (grown 1 s)) (moved_square p.motion m) both.0)
 
 pub never_left : (d : Design) (t : Tables) (p q : Place) → HasNoSquare d t p.cell → AreNeverNear d t p q
 never_left d t p q none c e x y m n held others near = none c x m held

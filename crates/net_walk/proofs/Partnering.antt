@@ -17,7 +17,7 @@ use Rattle.net_link_laws.proofs.Held.{own_held, child_held_at, square_below}
 use Rattle.net_link_laws.proofs.Looking.{near_grown}
 use Rattle.net_link_laws.specs.Found.{IsSquareLink}
 use Rattle.net_link_laws.specs.Places.{owned_before, places_of}
-use Rattle.net_link_laws.specs.Windows.{grown}
+use Rattle.geo_base.specs.Rects.{grown}
 use Rattle.net_walk.proofs.Besides.{item_below, no_part}
 use Rattle.net_walk.proofs.Holding.{one_last, one_left}
 use Rattle.net_walk.proofs.Placing.{among_at, at_among, of_rect, rect_at}
@@ -185,7 +185,7 @@ module _ (d : Design) (w : Wiring) (t : Tables) (cell from c : ℕ) (known : c <
       let standing : slice_get (places_of d cell) a.0.item ≡ Some p = subst (λ i. slice_get (places_of d cell) i ≡ Some p) (sym number) there in
       let inside : IsIn s.q a.2.span = subst (λ v. IsIn v a.2.span) held.image (a.2.is.all s.other x held.square held.holds) in
       let near : IsNear s.q s.p = near_back s.p s.q s.near in
-      let close : IsIn s.p (grown a.2.span) = near_grown a.2.span s.q s.p inside near in
+      let close : IsIn s.p (grown 1 a.2.span) = near_grown a.2.span s.q s.p inside near in
       let touch : AreTouching o.rect a.0.rect = record { one = s.p; other = s.p; in_one = rect.inside; in_other = subst (λ (v : Rect). IsIn s.p v) (sym a.2.rect) close; near = inl refl } in
       let is : IsPartner d t p.cell cs ones a.0 = record {
         one = o;

@@ -17,7 +17,8 @@ use Rattle.net_link_laws.proofs.Looking.{hulls}
 use Rattle.net_link_laws.proofs.Standing.{items_long, nets_under}
 use Rattle.net_link_laws.specs.Found.{IsSquareLink}
 use Rattle.net_link_laws.specs.Places.{places_of}
-use Rattle.net_link_laws.specs.Windows.{AreInContact, grown}
+use Rattle.net_link_laws.specs.Windows.{AreInContact}
+use Rattle.geo_base.specs.Rects.{grown}
 use Rattle.net_walk.proofs.Insides.{common_in}
 use Rattle.net_walk.specs.Pairs.{first_of, IsSpanPiece, AddsSpan, AreSpanPieces, AddsPair, AddsPairs}
 use Rattle.net_walk.specs.Walk.{IsSpan, HasNoSquare}
@@ -42,7 +43,7 @@ among_either (x ∷ ps) qs p (inr h) = elim (among_either ps qs p h) [ inl a ↦
 pub span_none : (d : Design) (t : Tables) (p : Place) (number : ℕ) (ps : List Piece) → HasNoSquare d t p.cell → AddsSpan d t p number ps ps
 span_none d t p number ps none = record { kept = λ o h. h; each = λ o h. inl h; found = inl none }
 
-pub span_some : (d : Design) (t : Tables) (p : Place) (number : ℕ) (ps : List Piece) (span rect : Rect) → IsSpan d t p span → rect ≡ grown span → AddsSpan d t p number ps (ps ++ record { conductor = 0; rect = rect; item = number } ∷ [])
+pub span_some : (d : Design) (t : Tables) (p : Place) (number : ℕ) (ps : List Piece) (span rect : Rect) → IsSpan d t p span → rect ≡ grown 1 span → AddsSpan d t p number ps (ps ++ record { conductor = 0; rect = rect; item = number } ∷ [])
 span_some d t p number ps span rect is e =
     let o : Piece = record { conductor = 0; rect = rect; item = number } in
     let one : IsSpanPiece d t p number o = record { item = refl; span = span; is = is; rect = e } in
@@ -125,7 +126,7 @@ meet d w t cell p q spans pairs touching i j x y not f g m =
     let b = elim g as (λ _. (o : Piece) × IsAmong o spans × IsSpanPiece d t q j o) [ inl none ↦ absurd (none m.e y m.n m.others) | inr o ↦ o ] in
     let both = hulls d t p q a.2.span b.2.span a.2.is.all b.2.is.all m.c m.e x y m.m m.n m.held m.others m.near in
     let square = moved_square p.motion m.m in
-    let inside = common_in (grown a.2.span) (grown b.2.span) square both.0 in
+    let inside = common_in (grown 1 a.2.span) (grown 1 b.2.span) square both.0 in
     let touch : AreTouching a.0.rect b.0.rect = record {
       one = square;
       other = square;

@@ -11,7 +11,7 @@ use Rattle.link_classes.specs.Classes.{IsLinked}
 use Rattle.link_classes.specs.declared.classes.Link.{Link}
 use Rattle.net_link_laws.specs.Found.{IsSquareLink}
 use Rattle.net_link_laws.specs.Places.{owned_before, places_of}
-use Rattle.net_link_laws.specs.Windows.{grown}
+use Rattle.geo_base.specs.Rects.{grown}
 use Rattle.net_walk.specs.Pairs.{first_of}
 use Rattle.net_walk.specs.Seen.{AreLinksOver, IsJoinedSeen}
 use Rattle.touching_pieces.specs.Pairs.{AreJoined, AreOne}
@@ -23,7 +23,7 @@ abbrev pub IsBesideSeen : Design → Tables → List Joined → Rect → ℕ →
     → Square → Type 0
 IsBesideSeen d t joins rect conductor item n p at c i q =
     ((conductor ≡ c) × (item ≡ i) × IsIn q rect)
-    ⊎ IsJoinedSeen d t joins conductor p (grown rect) at n c i q
+    ⊎ IsJoinedSeen d t joins conductor p (grown 1 rect) at n c i q
 
 -- each link is one by squares between items, and chains of links join what such links of the two
 -- join

@@ -1,12 +1,13 @@
 -- Links to globals.
-use Rattle.std.specs.Prelude.{◌≡◌, ◌⊎◌, ℕ, ◌+◌, ◌<◌, List, length}
+use Rattle.std.specs.Prelude.{◌≡◌, ◌⊎◌, ℕ, ◌+◌, ◌<◌, ◌≤◌, List, length}
 use Rattle.flat_layout.specs.Layout.{Design, Some_of}
-use Rattle.flat_layout.specs.Nets.{Item, Own, Child, Tables}
+use Rattle.flat_layout.specs.Nets.{Item, Own, Child, Tables, items_of}
 use Rattle.flat_layout.specs.Regions.{Wiring}
 use Rattle.link_classes.specs.Classes.{IsLinked}
 use Rattle.link_classes.specs.declared.classes.Link.{Link}
 use Rattle.net_link_laws.specs.Found.{IsGlobalLink, IsOnGlobal, Stands}
 use Rattle.net_link_laws.specs.Places.{owned_before, nets_before, places_of}
+use Rattle.net_walk.specs.declared.globals.GlobalItems.{GlobalItems}
 use Rattle.net_walk.specs.declared.globals.Grounded.{Grounded}
 
 -- some line grounds the conductor by the global
@@ -17,6 +18,12 @@ IsGroundedBy lines c g = Some_of (λ l. (l.conductor ≡ c) × (l.global ≡ g))
 abbrev pub globals_at : Design → Wiring → Tables → ℕ → ℕ
 globals_at d w t cell = owned_before t cell (length w.conductors)
     + nets_before t (places_of d cell) (length (places_of d cell))
+
+-- these are the cell's globals, and all its items have numbers
+pub record AreGlobals (d : Design) (w : Wiring) (t : Tables) (g : GlobalItems) : Type 0 where
+  pub count : g.count ≡ length w.globals
+  pub at : g.at ≡ globals_at d w t g.cell
+  pub room : length (items_of d w t g.cell) ≤ 4294967295
 
 -- of the items at two places, the one is a global and the other is on it
 abbrev pub IsGlobalPair : Design → Wiring → Tables → ℕ → ℕ → ℕ → Type 0

@@ -13,3 +13,4 @@ pub mod Held
 pub mod Whole
 pub mod Leaders
 pub mod Partners
+pub mod Placed

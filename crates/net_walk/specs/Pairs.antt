@@ -12,7 +12,8 @@ use Rattle.link_classes.specs.Classes.{AreInRange, IsLinked}
 use Rattle.link_classes.specs.declared.classes.Link.{Link}
 use Rattle.net_link_laws.specs.Found.{IsSquareLink}
 use Rattle.net_link_laws.specs.Places.{owned_before, nets_before, places_of}
-use Rattle.net_link_laws.specs.Windows.{IsEnoughFor, grown}
+use Rattle.net_link_laws.specs.Windows.{IsEnoughFor}
+use Rattle.geo_base.specs.Rects.{grown}
 use Rattle.net_walk.specs.Seen.{AreLinksOver, IsSeenOfTwo}
 use Rattle.net_walk.specs.Walk.{IsSpan, HasNoSquare}
 use Rattle.touching_pieces.specs.Pairs.{AreJoined, AreOne, IsAmong}
@@ -64,12 +65,12 @@ pub record AddsPair (d : Design) (w : Wiring) (t : Tables) (cell k l : ℕ)
   pub found : (x y : ℕ) → IsSquareLink d w t cell (Child k x) (Child l y)
       → AreOne new (first_of d w t cell k + x) (first_of d w t cell l + y)
 
--- the piece of a placement: its number, and what bounds it, grown by one square
+-- the piece of a placement: its number, and what bounds it, grown 1 by one square
 pub record IsSpanPiece (d : Design) (t : Tables) (p : Place) (number : ℕ) (o : Piece) : Type 0 where
   pub item : o.item ≡ number
   pub span : Rect
   pub is : IsSpan d t p span
-  pub rect : o.rect ≡ grown span
+  pub rect : o.rect ≡ grown 1 span
 
 -- one more piece, for a placement that has squares
 pub record AddsSpan (d : Design) (t : Tables) (p : Place) (number : ℕ)

@@ -1,5 +1,5 @@
 -- Pairs of own rectangles and placements whose nets may touch them.
-use Rattle.std.specs.Prelude.{◌≡◌, ◌⊎◌, ℕ, ◌+◌, ◌<◌, List, Some, slice_get, length}
+use Rattle.std.specs.Prelude.{◌≡◌, ◌⊎◌, ℕ, ◌+◌, ◌<◌, ◌≤◌, List, Some, slice_get, length}
 use Rattle.flat_layout.specs.Layout.{Design, Place}
 use Rattle.flat_layout.specs.Nets.{Own, Child, Tables}
 use Rattle.flat_layout.specs.Regions.{Wiring}
@@ -10,9 +10,17 @@ use Rattle.net_link_laws.specs.Found.{IsSquareLink}
 use Rattle.net_link_laws.specs.Places.{owned_before, places_of}
 use Rattle.net_walk.specs.Beside.{IsPairBeside}
 use Rattle.net_walk.specs.Held.{HasSquare, IsOneOf}
+use Rattle.net_walk.specs.Pairs.{AreSpanPieces}
+use Rattle.net_walk.specs.declared.partners.Spans.{Spans}
 use Rattle.touching_pieces.specs.Pairs.{IsAmong}
 use Rattle.touching_pieces.specs.Touching.{AreTouching}
 use Rattle.touching_pieces.specs.declared.pieces.Piece.{Piece}
+
+-- what bounds each placement, and a number on from which items of all placements have numbers
+pub record AreSpans (d : Design) (w : Wiring) (t : Tables) (s : Spans) : Type 0 where
+  pub pieces : AreSpanPieces d t s.cell (length (places_of d s.cell)) s.pieces.now
+  pub from : s.from ≡ owned_before t s.cell (length w.conductors)
+  pub room : s.from + length (places_of d s.cell) ≤ 4294967295
 
 -- no number is lost
 abbrev pub Keeps : List ℕ → List ℕ → Type 0

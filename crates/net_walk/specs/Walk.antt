@@ -6,12 +6,12 @@ use Rattle.flat_layout.specs.Plane.{IsIn}
 use Rattle.flat_layout.specs.Regions.{At}
 use Rattle.geo_base.specs.Motions.{moved_square}
 use Rattle.geo_base.specs.Near.{IsNearRect, IsWithin}
-use Rattle.geo_base.specs.Rects.{IsRect}
+use Rattle.geo_base.specs.Rects.{IsRect, grown}
 use Rattle.geo_base.specs.declared.motion.Motion.{Motion}
 use Rattle.geo_base.specs.declared.shapes.Rect.{Rect}
 use Rattle.geo_base.specs.declared.shapes.Square.{Square}
 use Rattle.net_link_laws.specs.Collected.{IsOver, AreCollected}
-use Rattle.net_link_laws.specs.Windows.{grown, IsHullOf}
+use Rattle.net_link_laws.specs.Windows.{IsHullOf}
 use Rattle.net_link_laws.specs.declared.piece.NetPiece.{NetPiece}
 use Rattle.net_walk.specs.declared.cells.Element.{Element}
 
@@ -35,7 +35,7 @@ HaveArea (r ∷ rs) = IsRect r × HaveArea rs
 -- own rectangles have squares, and are near the origin
 pub record AreNearOwn (t : Tables) : Type 0 where
   pub rect : (cell c r : ℕ) (o : Rect) → slice_get (t.own cell c) r ≡ Some o → IsRect o
-  pub near : (cell c r : ℕ) (o : Rect) → slice_get (t.own cell c) r ≡ Some o → IsNearRect (grown o)
+  pub near : (cell c r : ℕ) (o : Rect) → slice_get (t.own cell c) r ≡ Some o → IsNearRect (grown 1 o)
 
 -- the cell's nets have no square outside the rectangle
 pub record IsHull (d : Design) (t : Tables) (cell : ℕ) (r : Rect) : Type 0 where
@@ -53,7 +53,7 @@ HasNoSquare d t cell = (c : ℕ) → HasNone d t cell c
 -- the placed cell's nets have no square outside the rectangle
 pub record IsSpan (d : Design) (t : Tables) (p : Place) (r : Rect) : Type 0 where
   pub rect : IsRect r
-  pub near : IsNearRect (grown r)
+  pub near : IsNearRect (grown 1 r)
   pub all : IsHullOf d t p r
 
 -- the rectangle has squares, all of them in the window

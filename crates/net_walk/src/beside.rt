@@ -1,75 +1,58 @@
 //! Links between a cell's own rectangles and the nets of placements.
 
-ghost use Rattle.std.specs.Prelude.{◌≡◌, ◌+◌, ◌<◌, ◌≤◌, ◌↔◌, ℕ, [], ◌∷◌, get_or, length};
-ghost use Rattle.std.specs.Prelude.{slice_get, Some, IfOk, OnOk};
-ghost use Rattle.flat_layout.specs.Nets.{AreRightBelow, items_of};
-ghost use Rattle.flat_layout.specs.Regions.{IsJoined};
+ghost use Rattle.std.specs.Prelude.{◌≡◌, ◌<◌, [], ◌∷◌, length, IfOk, OnOk};
 ghost use Rattle.net_link_laws.specs.Places.{places_of};
 ghost use Rattle.net_walk.specs.Owned.{IsOwnPiece, owned_pieces};
-ghost use Rattle.net_walk.specs.Together.{AreFirsts};
-ghost use Rattle.touching_pieces.specs.Pairs.{AreJoined};
-ghost use Rattle.geo_base.specs.Near.{IsNearRect, IsNearMotion};
-ghost use Rattle.geo_base.specs.Rects.{IsRect};
-ghost use Rattle.net_link_laws.specs.Laws.{AreNetsUnder};
-ghost use Rattle.net_link_laws.specs.Windows.{grown};
+ghost use Rattle.net_walk.specs.Placed.{HasNets, IsLinkable};
+ghost use Rattle.geo_base.specs.Near.{IsNearRect};
+ghost use Rattle.geo_base.specs.Rects.{IsRect, grown};
 ghost use Rattle.net_walk.specs.Beside.{AddsBeside, AddsPairsBeside, AddsPieceBeside};
 ghost use Rattle.net_walk.specs.Beside.{ArePairsBeside, BesidePairLaw, IsBesideSeen, IsPairBeside};
 ghost use Rattle.net_walk.specs.Held.{AreHeldLists};
 ghost use Rattle.net_walk.specs.Seen.{AreLinksOver};
 ghost use Rattle.net_walk.specs.Walk.{place_of};
 
-use crate::cells::{Cells, Element};
+use crate::cells::Cells;
 use crate::held::HeldLists;
 use crate::own::own_pieces;
 use crate::partners::partners;
-use crate::rects::grown;
+use crate::placed::{LinkSite, Placed};
 use crate::seen::see_joined;
 use crate::sums::more;
 use crate::whole::{is_covered, whole_links};
-use geo_base::Rect;
 use link_classes::Link;
 use std::alloc::{AllocError, Global};
 use touching_pieces::{Joined, Piece, touching_links};
 
-/// Links whose chains join the item of a rectangle and those of a placement's nets that touch it;
-/// these stand from a place on. Only conductors that are joined to the rectangle's are walked, each
-/// once in its window; the links take near n log n for n pieces that are found there. An `Err` is
-/// want of memory.
+/// Links whose chains join a piece's item and those of a placement's nets that touch it. Only
+/// conductors that are joined to the piece's are walked, each once in its window; the links take
+/// near n log n for n pieces that are found there. An `Err` is want of memory.
 pub fn beside_links<C: Cells>(
     alloc: Global,
     cells: &C,
-    rect: &Rect,
-    conductor: u32,
-    item: u32,
-    element: &Element,
-    at: u32,
+    piece: &Piece,
+    placed: &Placed<'_>,
     joins: &[Joined],
 ) -> Result<Vec<Link>, AllocError>
-    requires rect { IsRect rect.now }
-    requires near { IsNearRect (grown rect.now) }
-    requires known { conductor < length (C.wiring cells.now).conductors }
-    requires nets { AreNetsUnder (C.design cells.now) (C.wiring cells.now) (C.tables cells.now)
-        element.now.cell }
-    requires motion { IsNearMotion element.now.motion }
-    requires room { at + ((C.tables cells.now).nets element.now.cell).count ≤ 4294967296 }
+    requires rect { IsRect piece.now.rect }
+    requires near { IsNearRect (grown 1 piece.now.rect) }
+    requires known { piece.now.conductor < length (C.wiring cells.now).conductors }
+    requires placed { HasNets (C.design cells.now) (C.wiring cells.now) (C.tables cells.now)
+        placed.now }
     ensures { IfOk result (λ v. AreLinksOver joins.now
-        (IsBesideSeen (C.design cells.now) (C.tables cells.now) joins.now rect.now conductor item
-        (length (C.wiring cells.now).conductors) (place_of element.now) at) v.items) }
+        (IsBesideSeen (C.design cells.now) (C.tables cells.now) joins.now piece.now.rect
+        piece.now.conductor piece.now.item (length (C.wiring cells.now).conductors)
+        (place_of placed.now.element.now) placed.now.at) v.items) }
 {
-    let window = grown(rect);
+    let window = piece.rect.grown(1);
     let mut pieces = Vec::new(alloc);
-    pieces.push(Piece {
-        conductor,
-        rect: *rect,
-        item,
-    })?;
+    pieces.push(*piece)?;
     see_joined(
         alloc,
         cells,
-        element,
+        placed,
         &window,
-        at,
-        conductor,
+        piece.conductor,
         joins,
         &mut pieces,
     )?;
@@ -86,40 +69,27 @@ pub fn beside_law()
 fn link_near<C: Cells>(
     alloc: Global,
     cells: &C,
-    cell: u32,
+    site: &LinkSite<'_>,
     piece: &Piece,
     number: u32,
-    firsts: &[u32],
-    joins: &[Joined],
     out: &mut Vec<Link>,
 ) -> Result<(), AllocError>
-    requires piece { IsOwnPiece (C.tables cells.now) cell (length (C.wiring cells.now).conductors)
-        piece.now }
-    requires number { number < length (places_of (C.design cells.now) cell) }
-    requires right { AreRightBelow (C.design cells.now) (C.wiring cells.now) (C.tables cells.now)
-        cell }
-    requires firsts { AreFirsts (C.design cells.now) (C.wiring cells.now) (C.tables cells.now) cell
-        firsts.now }
-    requires room { length (items_of (C.design cells.now) (C.wiring cells.now) (C.tables cells.now)
-        cell) ≤ 4294967295 }
-    requires joins { (c e : ℕ) → AreJoined joins.now c e ↔ IsJoined (C.wiring cells.now) c e }
+    requires piece { IsOwnPiece (C.tables cells.now) site.now.cell
+        (length (C.wiring cells.now).conductors) piece.now }
+    requires number { number < length (places_of (C.design cells.now) site.now.cell) }
+    requires site { IsLinkable (C.design cells.now) (C.wiring cells.now) (C.tables cells.now)
+        site.now }
     ensures { OnOk result (AddsPieceBeside (C.design cells.now) (C.wiring cells.now)
-        (C.tables cells.now) cell piece.now number out.old.items out.new.items) }
+        (C.tables cells.now) site.now.cell piece.now number out.old.items out.new.items) }
 {
-    let _ = cell;
     cells.sound();
-    let elements = cells.places(cell);
+    let elements = cells.places(site.cell);
     let k = number as usize;
-    let links = beside_links(
-        alloc,
-        cells,
-        &piece.rect,
-        piece.conductor,
-        piece.item,
-        &elements[k],
-        firsts[k],
-        joins,
-    )?;
+    let placed = Placed {
+        element: &elements[k],
+        at: site.firsts[k],
+    };
+    let links = beside_links(alloc, cells, piece, &placed, site.joins)?;
     out.extend_from_slice(&links)?;
     Ok(())
 }
@@ -129,125 +99,90 @@ fn link_near<C: Cells>(
 fn link_piece<C: Cells>(
     alloc: Global,
     cells: &C,
-    cell: u32,
+    site: &LinkSite<'_>,
     piece: &Piece,
     number: u32,
-    firsts: &[u32],
-    joins: &[Joined],
     memo: &mut HeldLists,
     out: &mut Vec<Link>,
 ) -> Result<(), AllocError>
-    requires piece { IsOwnPiece (C.tables cells.now) cell (length (C.wiring cells.now).conductors)
-        piece.now }
-    requires number { number < length (places_of (C.design cells.now) cell) }
-    requires right { AreRightBelow (C.design cells.now) (C.wiring cells.now) (C.tables cells.now)
-        cell }
-    requires firsts { AreFirsts (C.design cells.now) (C.wiring cells.now) (C.tables cells.now) cell
-        firsts.now }
-    requires room { length (items_of (C.design cells.now) (C.wiring cells.now) (C.tables cells.now)
-        cell) ≤ 4294967295 }
-    requires joins { (c e : ℕ) → AreJoined joins.now c e ↔ IsJoined (C.wiring cells.now) c e }
+    requires piece { IsOwnPiece (C.tables cells.now) site.now.cell
+        (length (C.wiring cells.now).conductors) piece.now }
+    requires number { number < length (places_of (C.design cells.now) site.now.cell) }
+    requires site { IsLinkable (C.design cells.now) (C.wiring cells.now) (C.tables cells.now)
+        site.now }
     requires lists { AreHeldLists (C.design cells.now) (C.tables cells.now) memo.old.lists.items }
     ensures lists { OnOk result (AreHeldLists (C.design cells.now) (C.tables cells.now)
         memo.new.lists.items) }
     ensures links { OnOk result (AddsPieceBeside (C.design cells.now) (C.wiring cells.now)
-        (C.tables cells.now) cell piece.now number out.old.items out.new.items) }
+        (C.tables cells.now) site.now.cell piece.now number out.old.items out.new.items) }
 {
-    let elements = cells.places(cell);
+    let elements = cells.places(site.cell);
     let k = number as usize;
     let element = &elements[k];
     if is_covered(cells, element, &piece.rect) {
-        whole_links(
-            alloc,
-            cells,
-            piece.item,
-            piece.conductor,
-            element.cell,
-            firsts[k],
-            joins,
-            memo,
-            out,
-        )?;
+        let placed = Placed {
+            element,
+            at: site.firsts[k],
+        };
+        whole_links(alloc, cells, &placed, piece, site.joins, memo, out)?;
         return Ok(());
     }
-    link_near(alloc, cells, cell, piece, number, firsts, joins, out)
+    link_near(alloc, cells, site, piece, number, out)
 }
 
 // Adds the links of a pair of a rectangle and a placement.
 fn link_beside<C: Cells>(
     alloc: Global,
     cells: &C,
-    cell: u32,
+    site: &LinkSite<'_>,
     pieces: &[Piece],
     pair: &Link,
-    firsts: &[u32],
-    joins: &[Joined],
     memo: &mut HeldLists,
     out: &mut Vec<Link>,
 ) -> Result<(), AllocError>
-    requires pieces { pieces.now ≡ owned_pieces (C.tables cells.now) cell
+    requires pieces { pieces.now ≡ owned_pieces (C.tables cells.now) site.now.cell
         (length (C.wiring cells.now).conductors) }
-    requires pair { IsPairBeside (length pieces.now) (length (places_of (C.design cells.now) cell))
-        pair.now }
-    requires right { AreRightBelow (C.design cells.now) (C.wiring cells.now) (C.tables cells.now)
-        cell }
-    requires firsts { AreFirsts (C.design cells.now) (C.wiring cells.now) (C.tables cells.now) cell
-        firsts.now }
-    requires room { length (items_of (C.design cells.now) (C.wiring cells.now) (C.tables cells.now)
-        cell) ≤ 4294967295 }
-    requires joins { (c e : ℕ) → AreJoined joins.now c e ↔ IsJoined (C.wiring cells.now) c e }
+    requires pair { IsPairBeside (length pieces.now)
+        (length (places_of (C.design cells.now) site.now.cell)) pair.now }
+    requires site { IsLinkable (C.design cells.now) (C.wiring cells.now) (C.tables cells.now)
+        site.now }
     requires lists { AreHeldLists (C.design cells.now) (C.tables cells.now) memo.old.lists.items }
     ensures lists { OnOk result (AreHeldLists (C.design cells.now) (C.tables cells.now)
         memo.new.lists.items) }
     ensures links { OnOk result (AddsPairsBeside (C.design cells.now) (C.wiring cells.now)
-        (C.tables cells.now) cell (length pieces.now) (pair.now ∷ []) out.old.items out.new.items) }
+        (C.tables cells.now) site.now.cell (length pieces.now) (pair.now ∷ []) out.old.items
+        out.new.items) }
 {
     let item = pair.one.min(pair.other) as usize;
     let number = pair.one.max(pair.other) - pieces.len() as u32;
-    link_piece(
-        alloc,
-        cells,
-        cell,
-        &pieces[item],
-        number,
-        firsts,
-        joins,
-        memo,
-        out,
-    )?;
+    link_piece(alloc, cells, site, &pieces[item], number, memo, out)?;
     Ok(())
 }
 
 fn link_all_beside<C: Cells>(
     alloc: Global,
     cells: &C,
-    cell: u32,
+    site: &LinkSite<'_>,
     pieces: &[Piece],
     pairs: &[Link],
-    firsts: &[u32],
-    joins: &[Joined],
     memo: &mut HeldLists,
     out: &mut Vec<Link>,
 ) -> Result<(), AllocError>
-    requires pieces { pieces.now ≡ owned_pieces (C.tables cells.now) cell
+    requires pieces { pieces.now ≡ owned_pieces (C.tables cells.now) site.now.cell
         (length (C.wiring cells.now).conductors) }
     requires pairs { ArePairsBeside (length pieces.now)
-        (length (places_of (C.design cells.now) cell)) pairs.now }
-    requires right { AreRightBelow (C.design cells.now) (C.wiring cells.now) (C.tables cells.now)
-        cell }
-    requires firsts { AreFirsts (C.design cells.now) (C.wiring cells.now) (C.tables cells.now) cell
-        firsts.now }
-    requires room { length (items_of (C.design cells.now) (C.wiring cells.now) (C.tables cells.now)
-        cell) ≤ 4294967295 }
-    requires joins { (c e : ℕ) → AreJoined joins.now c e ↔ IsJoined (C.wiring cells.now) c e }
+        (length (places_of (C.design cells.now) site.now.cell)) pairs.now }
+    requires site { IsLinkable (C.design cells.now) (C.wiring cells.now) (C.tables cells.now)
+        site.now }
     requires lists { AreHeldLists (C.design cells.now) (C.tables cells.now) memo.old.lists.items }
     ensures lists { OnOk result (AreHeldLists (C.design cells.now) (C.tables cells.now)
         memo.new.lists.items) }
     ensures links { OnOk result (AddsPairsBeside (C.design cells.now) (C.wiring cells.now)
-        (C.tables cells.now) cell (length pieces.now) pairs.now out.old.items out.new.items) }
+        (C.tables cells.now) site.now.cell (length pieces.now) pairs.now out.old.items
+        out.new.items) }
 {
     for pair in pairs {
-        link_beside(alloc, cells, cell, pieces, pair, firsts, joins, memo, out)?;
+        link_beside(alloc, cells, site, pieces, pair, memo, out)?;
     }
     Ok(())
 }
@@ -261,28 +196,19 @@ fn link_all_beside<C: Cells>(
 pub fn all_beside<C: Cells>(
     alloc: Global,
     cells: &C,
-    cell: u32,
-    firsts: &[u32],
-    joins: &[Joined],
+    site: &LinkSite<'_>,
     out: &mut Vec<Link>,
 ) -> Result<(), AllocError>
-    requires right { AreRightBelow (C.design cells.now) (C.wiring cells.now) (C.tables cells.now)
-        cell }
-    requires firsts { AreFirsts (C.design cells.now) (C.wiring cells.now) (C.tables cells.now) cell
-        firsts.now }
-    requires room { length (items_of (C.design cells.now) (C.wiring cells.now) (C.tables cells.now)
-        cell) ≤ 4294967295 }
-    requires joins { (c e : ℕ) → AreJoined joins.now c e ↔ IsJoined (C.wiring cells.now) c e }
+    requires site { IsLinkable (C.design cells.now) (C.wiring cells.now) (C.tables cells.now)
+        site.now }
     ensures { OnOk result (AddsBeside (C.design cells.now) (C.wiring cells.now) (C.tables cells.now)
-        cell out.old.items out.new.items) }
+        site.now.cell out.old.items out.new.items) }
 {
-    let pieces = own_pieces(alloc, cells, cell)?;
+    let pieces = own_pieces(alloc, cells, site.cell)?;
     let owned = more(0, pieces.len())?;
-    more(owned, firsts.len())?;
-    let pairs = partners(alloc, cells, cell, owned, joins)?;
+    more(owned, site.firsts.len())?;
+    let pairs = partners(alloc, cells, site.cell, owned, site.joins)?;
     let mut memo = HeldLists::new(alloc);
-    link_all_beside(
-        alloc, cells, cell, &pieces, &pairs, firsts, joins, &mut memo, out,
-    )?;
+    link_all_beside(alloc, cells, site, &pieces, &pairs, &mut memo, out)?;
     Ok(())
 }

@@ -1,26 +1,23 @@
 //! Links between the nets of two placements.
 
-ghost use Rattle.std.specs.Prelude.{◌≡◌, ◌<◌, ◌≤◌, ◌↔◌, length, get_or, ℕ, OnOk, IfOk};
-ghost use Rattle.std.specs.Prelude.{IfSome, IfNone};
-ghost use Rattle.flat_layout.specs.Nets.{AreRightBelow, items_of};
-ghost use Rattle.flat_layout.specs.Regions.{IsJoined};
+ghost use Rattle.std.specs.Prelude.{◌<◌, length, OnOk, IfOk, IfSome, IfNone};
 ghost use Rattle.net_link_laws.specs.Places.{places_of};
 ghost use Rattle.net_walk.specs.Contacts.{IsBeside};
 ghost use Rattle.net_walk.specs.Pairs.{AddsChildren, AddsPair, AddsPairs, AddsSpan, AreSpanPieces};
-ghost use Rattle.net_walk.specs.Pairs.{AreEnoughPairs, AreNeverNear, IsWindowFor, first_of};
+ghost use Rattle.net_walk.specs.Pairs.{AreEnoughPairs, AreNeverNear, IsWindowFor};
+ghost use Rattle.net_walk.specs.Placed.{IsLinkable};
 ghost use Rattle.net_walk.specs.Walk.{IsClose, place_of};
 ghost use Rattle.link_classes.specs.Classes.{AreInRange};
-ghost use Rattle.touching_pieces.specs.Pairs.{AreJoined};
 
 use crate::cells::{Cells, Element};
 use crate::contacts::{Beside, beside_of, replay};
 use crate::leaders::{leaders_of, leading, push_followers};
 use crate::lyings::alike_together;
-use crate::rects::{common, grown, is_rect};
+use crate::placed::LinkSite;
 use geo_base::Rect;
 use link_classes::Link;
 use std::alloc::{AllocError, Global};
-use touching_pieces::{Joined, Piece, touching_pairs};
+use touching_pieces::{Piece, touching_pairs};
 
 // Where squares of the two may be near each other.
 pub(crate) fn window_of<C: Cells>(cells: &C, one: &Element, other: &Element) -> Option<Rect>
@@ -36,8 +33,8 @@ pub(crate) fn window_of<C: Cells>(cells: &C, one: &Element, other: &Element) -> 
         Some(first) => match cells.span(other) {
             None => None,
             Some(second) => {
-                let window = common(&grown(&first), &grown(&second));
-                if is_rect(&window) {
+                let window = first.grown(1).common(&second.grown(1));
+                if window.is_rect() {
                     return Some(window);
                 }
                 None
@@ -62,7 +59,7 @@ fn push_span<C: Cells>(
         Some(span) => {
             out.push(Piece {
                 conductor: 0,
-                rect: grown(&span),
+                rect: span.grown(1),
                 item: number,
             })?;
             Ok(())
@@ -92,36 +89,28 @@ pub(crate) fn span_pieces<C: Cells>(
 fn link_numbers<C: Cells>(
     alloc: Global,
     cells: &C,
-    cell: u32,
+    site: &LinkSite<'_>,
     pair: &Link,
-    firsts: &[u32],
-    joins: &[Joined],
     known: Option<Beside>,
     out: &mut Vec<Link>,
 ) -> Result<Beside, AllocError>
-    requires one { pair.now.one < length (places_of (C.design cells.now) cell) }
-    requires other { pair.now.other < length (places_of (C.design cells.now) cell) }
-    requires right { AreRightBelow (C.design cells.now) (C.wiring cells.now) (C.tables cells.now)
-        cell }
-    requires long { length firsts.now ≡ length (places_of (C.design cells.now) cell) }
-    requires firsts { (k : ℕ) → k < length firsts.now
-        → get_or firsts.now k 0 ≡ first_of (C.design cells.now) (C.wiring cells.now)
-        (C.tables cells.now) cell k }
-    requires room { length (items_of (C.design cells.now) (C.wiring cells.now) (C.tables cells.now)
-        cell) ≤ 4294967296 }
-    requires joins { (c e : ℕ) → AreJoined joins.now c e ↔ IsJoined (C.wiring cells.now) c e }
+    requires one { pair.now.one < length (places_of (C.design cells.now) site.now.cell) }
+    requires other { pair.now.other < length (places_of (C.design cells.now) site.now.cell) }
+    requires site { IsLinkable (C.design cells.now) (C.wiring cells.now) (C.tables cells.now)
+        site.now }
     requires known { IfSome known (IsBeside (C.design cells.now) (C.wiring cells.now)
         (C.tables cells.now)) }
     ensures is { IfOk result (IsBeside (C.design cells.now) (C.wiring cells.now)
         (C.tables cells.now)) }
     ensures links { OnOk result (AddsPair (C.design cells.now) (C.wiring cells.now)
-        (C.tables cells.now) cell pair.now.one pair.now.other out.old.items out.new.items) }
+        (C.tables cells.now) site.now.cell pair.now.one pair.now.other out.old.items
+        out.new.items) }
 {
-    let elements = cells.places(cell);
+    let elements = cells.places(site.cell);
     let k = pair.one as usize;
     let l = pair.other as usize;
-    let beside = beside_of(alloc, cells, known, &elements[k], &elements[l], joins)?;
-    replay(&beside.contacts, firsts[k], firsts[l], out)?;
+    let beside = beside_of(alloc, cells, known, &elements[k], &elements[l], site.joins)?;
+    replay(&beside.contacts, site.firsts[k], site.firsts[l], out)?;
     Ok(beside)
 }
 
@@ -131,28 +120,19 @@ fn link_numbers<C: Cells>(
 pub fn link_pairs<C: Cells>(
     alloc: Global,
     cells: &C,
-    cell: u32,
+    site: &LinkSite<'_>,
     pairs: &[Link],
-    firsts: &[u32],
-    joins: &[Joined],
     out: &mut Vec<Link>,
 ) -> Result<(), AllocError>
-    requires pairs { AreInRange (length (places_of (C.design cells.now) cell)) pairs.now }
-    requires right { AreRightBelow (C.design cells.now) (C.wiring cells.now) (C.tables cells.now)
-        cell }
-    requires long { length firsts.now ≡ length (places_of (C.design cells.now) cell) }
-    requires firsts { (k : ℕ) → k < length firsts.now
-        → get_or firsts.now k 0 ≡ first_of (C.design cells.now) (C.wiring cells.now)
-        (C.tables cells.now) cell k }
-    requires room { length (items_of (C.design cells.now) (C.wiring cells.now) (C.tables cells.now)
-        cell) ≤ 4294967296 }
-    requires joins { (c e : ℕ) → AreJoined joins.now c e ↔ IsJoined (C.wiring cells.now) c e }
+    requires pairs { AreInRange (length (places_of (C.design cells.now) site.now.cell)) pairs.now }
+    requires site { IsLinkable (C.design cells.now) (C.wiring cells.now) (C.tables cells.now)
+        site.now }
     ensures { OnOk result (AddsPairs (C.design cells.now) (C.wiring cells.now) (C.tables cells.now)
-        cell pairs.now out.old.items out.new.items) }
+        site.now.cell pairs.now out.old.items out.new.items) }
 {
     let mut known = None;
     for pair in pairs {
-        let beside = link_numbers(alloc, cells, cell, pair, firsts, joins, known, out)?;
+        let beside = link_numbers(alloc, cells, site, pair, known, out)?;
         known = Some(beside);
     }
     Ok(())
@@ -184,24 +164,15 @@ pub fn enough_pairs<C: Cells>(alloc: Global, cells: &C, cell: u32) -> Result<Vec
 pub fn children_links<C: Cells>(
     alloc: Global,
     cells: &C,
-    cell: u32,
-    firsts: &[u32],
-    joins: &[Joined],
+    site: &LinkSite<'_>,
     out: &mut Vec<Link>,
 ) -> Result<(), AllocError>
-    requires right { AreRightBelow (C.design cells.now) (C.wiring cells.now) (C.tables cells.now)
-        cell }
-    requires long { length firsts.now ≡ length (places_of (C.design cells.now) cell) }
-    requires firsts { (k : ℕ) → k < length firsts.now
-        → get_or firsts.now k 0 ≡ first_of (C.design cells.now) (C.wiring cells.now)
-        (C.tables cells.now) cell k }
-    requires room { length (items_of (C.design cells.now) (C.wiring cells.now) (C.tables cells.now)
-        cell) ≤ 4294967296 }
-    requires joins { (c e : ℕ) → AreJoined joins.now c e ↔ IsJoined (C.wiring cells.now) c e }
+    requires site { IsLinkable (C.design cells.now) (C.wiring cells.now) (C.tables cells.now)
+        site.now }
     ensures { OnOk result (AddsChildren (C.design cells.now) (C.wiring cells.now)
-        (C.tables cells.now) cell out.old.items out.new.items) }
+        (C.tables cells.now) site.now.cell out.old.items out.new.items) }
 {
-    let pairs = enough_pairs(alloc, cells, cell)?;
-    link_pairs(alloc, cells, cell, &pairs, firsts, joins, out)?;
+    let pairs = enough_pairs(alloc, cells, site.cell)?;
+    link_pairs(alloc, cells, site, &pairs, out)?;
     Ok(())
 }

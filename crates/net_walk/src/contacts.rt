@@ -13,6 +13,7 @@ ghost use Rattle.touching_pieces.specs.Pairs.{AddsLinks, AreJoined};
 use crate::alike::relative;
 use crate::cells::{Cells, Element};
 use crate::children::window_of;
+use crate::placed::Placed;
 use crate::seen::pair_links;
 use crate::sums::more;
 use geo_base::{Motion, Rect};
@@ -86,7 +87,15 @@ fn window_contacts<C: Cells>(
 {
     let count = cells.count(one.cell);
     more(count, cells.count(other.cell) as usize)?;
-    let links = pair_links(alloc, cells, one, 0, other, count, window, joins)?;
+    let first = Placed {
+        element: one,
+        at: 0,
+    };
+    let second = Placed {
+        element: other,
+        at: count,
+    };
+    let links = pair_links(alloc, cells, &first, &second, window, joins)?;
     across(alloc, &links, count)
 }
 

@@ -1,16 +1,17 @@
 //! Links between a cell's items and its globals.
 
-ghost use Rattle.std.specs.Prelude.{◌≡◌, ◌+◌, ◌<◌, ◌≤◌, ◌↔◌, ℕ, length, slice_get, Some, OnOk};
-ghost use Rattle.flat_layout.specs.Nets.{AreNets, AreRightBelow, items_of};
+ghost use Rattle.std.specs.Prelude.{◌≡◌, ◌<◌, ◌↔◌, ℕ, length, slice_get, Some, OnOk};
+ghost use Rattle.flat_layout.specs.Nets.{AreNets, AreRightBelow};
 ghost use Rattle.net_link_laws.specs.Places.{places_of};
 ghost use Rattle.net_walk.specs.Globals.{AddsToGlobals, IsAny, IsByFirst, IsByLine, IsByLines};
-ghost use Rattle.net_walk.specs.Globals.{IsGroundedBy, IsOfPlacement, IsOfPlacements, globals_at};
+ghost use Rattle.net_walk.specs.Globals.{AreGlobals, IsGroundedBy, IsOfPlacement, IsOfPlacements};
 ghost use Rattle.net_walk.specs.Pairs.{first_of};
 ghost use Rattle.net_walk.specs.Together.{AreFirsts};
 ghost use Rattle.net_walk.specs.Walk.{place_of};
 ghost use Rattle.flat_layout.specs.Regions.{IsGrounded};
 
-use crate::cells::{Cells, Element};
+use crate::cells::Cells;
+use crate::placed::Placed;
 use crate::walk::owned_before;
 use link_classes::Link;
 use std::alloc::AllocError;
@@ -22,29 +23,34 @@ pub struct Grounded {
     pub global: u32,
 }
 
+/// A cell's globals: how many they are, and the place of the first among the cell's items.
+#[derive(Clone, Copy, Debug, PartialEq, Eq)]
+pub struct GlobalItems {
+    pub cell: u32,
+    pub count: u32,
+    pub at: u32,
+}
+
 // Adds a link from each rectangle of a line's conductor to the line's global.
 fn ground_rects<C: Cells>(
     cells: &C,
-    cell: u32,
+    globals: &GlobalItems,
     line: &Grounded,
-    at: u32,
     out: &mut Vec<Link>,
 ) -> Result<(), AllocError>
     requires conductor { line.now.conductor < length (C.wiring cells.now).conductors }
     requires global { line.now.global < length (C.wiring cells.now).globals }
     requires line { IsGrounded (C.wiring cells.now) line.now.conductor line.now.global }
-    requires at { at ≡ globals_at (C.design cells.now) (C.wiring cells.now) (C.tables cells.now)
-        cell }
-    requires room { length (items_of (C.design cells.now) (C.wiring cells.now) (C.tables cells.now)
-        cell) ≤ 4294967295 }
+    requires globals { AreGlobals (C.design cells.now) (C.wiring cells.now) (C.tables cells.now)
+        globals.now }
     ensures { OnOk result (AddsToGlobals (C.design cells.now) (C.wiring cells.now)
-        (C.tables cells.now) cell (IsByLine line.now) out.old.items out.new.items) }
+        (C.tables cells.now) globals.now.cell (IsByLine line.now) out.old.items out.new.items) }
 {
-    let first = owned_before(cells, cell, line.conductor) as u32;
-    for r in 0..cells.own(cell, line.conductor).len() {
+    let first = owned_before(cells, globals.cell, line.conductor) as u32;
+    for r in 0..cells.own(globals.cell, line.conductor).len() {
         out.push(Link {
             one: first + r as u32,
-            other: at + line.global,
+            other: globals.at + line.global,
         })?;
     }
     Ok(())
@@ -53,50 +59,40 @@ fn ground_rects<C: Cells>(
 // The same where the line's conductor and its global are known.
 fn ground_line<C: Cells>(
     cells: &C,
-    cell: u32,
+    globals: &GlobalItems,
     line: &Grounded,
-    globals: u32,
-    at: u32,
     out: &mut Vec<Link>,
 ) -> Result<(), AllocError>
-    requires globals { globals ≡ length (C.wiring cells.now).globals }
     requires line { IsGrounded (C.wiring cells.now) line.now.conductor line.now.global }
-    requires at { at ≡ globals_at (C.design cells.now) (C.wiring cells.now) (C.tables cells.now)
-        cell }
-    requires room { length (items_of (C.design cells.now) (C.wiring cells.now) (C.tables cells.now)
-        cell) ≤ 4294967295 }
+    requires globals { AreGlobals (C.design cells.now) (C.wiring cells.now) (C.tables cells.now)
+        globals.now }
     ensures { OnOk result (AddsToGlobals (C.design cells.now) (C.wiring cells.now)
-        (C.tables cells.now) cell (IsByLine line.now) out.old.items out.new.items) }
+        (C.tables cells.now) globals.now.cell (IsByLine line.now) out.old.items out.new.items) }
 {
     if line.conductor >= cells.conductors() {
         return Ok(());
     }
-    if line.global >= globals {
+    if line.global >= globals.count {
         return Ok(());
     }
-    ground_rects(cells, cell, line, at, out)?;
+    ground_rects(cells, globals, line, out)?;
     Ok(())
 }
 
 fn ground_lines<C: Cells>(
     cells: &C,
-    cell: u32,
+    globals: &GlobalItems,
     lines: &[Grounded],
-    globals: u32,
-    at: u32,
     out: &mut Vec<Link>,
 ) -> Result<(), AllocError>
-    requires globals { globals ≡ length (C.wiring cells.now).globals }
     requires lines { (c g : ℕ) → IsGroundedBy lines.now c g → IsGrounded (C.wiring cells.now) c g }
-    requires at { at ≡ globals_at (C.design cells.now) (C.wiring cells.now) (C.tables cells.now)
-        cell }
-    requires room { length (items_of (C.design cells.now) (C.wiring cells.now) (C.tables cells.now)
-        cell) ≤ 4294967295 }
+    requires globals { AreGlobals (C.design cells.now) (C.wiring cells.now) (C.tables cells.now)
+        globals.now }
     ensures { OnOk result (AddsToGlobals (C.design cells.now) (C.wiring cells.now)
-        (C.tables cells.now) cell (IsByLines lines.now) out.old.items out.new.items) }
+        (C.tables cells.now) globals.now.cell (IsByLines lines.now) out.old.items out.new.items) }
 {
     for line in lines {
-        ground_line(cells, cell, line, globals, at, out)?;
+        ground_line(cells, globals, line, out)?;
     }
     Ok(())
 }
@@ -104,36 +100,29 @@ fn ground_lines<C: Cells>(
 // Adds a link from the placed cell's net of each global to the global.
 fn join_globals<C: Cells>(
     cells: &C,
-    cell: u32,
-    element: &Element,
+    globals: &GlobalItems,
+    placed: &Placed<'_>,
     number: u32,
-    first: u32,
-    globals: u32,
-    at: u32,
     out: &mut Vec<Link>,
 ) -> Result<(), AllocError>
-    requires placed { slice_get (places_of (C.design cells.now) cell) number
-        ≡ Some (place_of element.now) }
+    requires placed { slice_get (places_of (C.design cells.now) globals.now.cell) number
+        ≡ Some (place_of placed.now.element.now) }
     requires nets { AreNets (C.design cells.now) (C.wiring cells.now) (C.tables cells.now)
-        element.now.cell ((C.tables cells.now).nets element.now.cell) }
-    requires first { first ≡ first_of (C.design cells.now) (C.wiring cells.now) (C.tables cells.now)
-        cell number }
-    requires globals { globals ≡ length (C.wiring cells.now).globals }
-    requires at { at ≡ globals_at (C.design cells.now) (C.wiring cells.now) (C.tables cells.now)
-        cell }
-    requires room { length (items_of (C.design cells.now) (C.wiring cells.now) (C.tables cells.now)
-        cell) ≤ 4294967295 }
+        placed.now.element.now.cell ((C.tables cells.now).nets placed.now.element.now.cell) }
+    requires first { placed.now.at ≡ first_of (C.design cells.now) (C.wiring cells.now)
+        (C.tables cells.now) globals.now.cell number }
+    requires globals { AreGlobals (C.design cells.now) (C.wiring cells.now) (C.tables cells.now)
+        globals.now }
     ensures { OnOk result (AddsToGlobals (C.design cells.now) (C.wiring cells.now)
-        (C.tables cells.now) cell (IsOfPlacement number) out.old.items out.new.items) }
+        (C.tables cells.now) globals.now.cell (IsOfPlacement number) out.old.items out.new.items) }
 {
-    let _ = cell;
     let _ = number;
-    let net_of = cells.net_of(element.cell);
-    let base = net_of.len() - globals as usize;
-    for g in 0..globals {
+    let net_of = cells.net_of(placed.element.cell);
+    let base = net_of.len() - globals.count as usize;
+    for g in 0..globals.count {
         out.push(Link {
-            one: first + net_of[base + g as usize],
-            other: at + g,
+            one: placed.at + net_of[base + g as usize],
+            other: globals.at + g,
         })?;
     }
     Ok(())
@@ -141,29 +130,28 @@ fn join_globals<C: Cells>(
 
 fn join_placements<C: Cells>(
     cells: &C,
-    cell: u32,
+    globals: &GlobalItems,
     firsts: &[u32],
-    globals: u32,
-    at: u32,
     out: &mut Vec<Link>,
 ) -> Result<(), AllocError>
     requires right { AreRightBelow (C.design cells.now) (C.wiring cells.now) (C.tables cells.now)
-        cell }
-    requires firsts { AreFirsts (C.design cells.now) (C.wiring cells.now) (C.tables cells.now) cell
-        firsts.now }
-    requires globals { globals ≡ length (C.wiring cells.now).globals }
-    requires at { at ≡ globals_at (C.design cells.now) (C.wiring cells.now) (C.tables cells.now)
-        cell }
-    requires room { length (items_of (C.design cells.now) (C.wiring cells.now) (C.tables cells.now)
-        cell) ≤ 4294967295 }
+        globals.now.cell }
+    requires firsts { AreFirsts (C.design cells.now) (C.wiring cells.now) (C.tables cells.now)
+        globals.now.cell firsts.now }
+    requires globals { AreGlobals (C.design cells.now) (C.wiring cells.now) (C.tables cells.now)
+        globals.now }
     ensures { OnOk result (AddsToGlobals (C.design cells.now) (C.wiring cells.now)
-        (C.tables cells.now) cell (IsOfPlacements (length (places_of (C.design cells.now) cell)))
+        (C.tables cells.now) globals.now.cell
+        (IsOfPlacements (length (places_of (C.design cells.now) globals.now.cell)))
         out.old.items out.new.items) }
 {
-    let elements = cells.places(cell);
+    let elements = cells.places(globals.cell);
     for k in 0..elements.len() {
-        let first = firsts[k];
-        join_globals(cells, cell, &elements[k], k as u32, first, globals, at, out)?;
+        let placed = Placed {
+            element: &elements[k],
+            at: firsts[k],
+        };
+        join_globals(cells, globals, &placed, k as u32, out)?;
     }
     Ok(())
 }
@@ -172,27 +160,22 @@ fn join_placements<C: Cells>(
 /// from the net of each placed cell that is its global's. Linear in these.
 pub fn global_links<C: Cells>(
     cells: &C,
-    cell: u32,
+    globals: &GlobalItems,
     firsts: &[u32],
     lines: &[Grounded],
-    globals: u32,
-    at: u32,
     out: &mut Vec<Link>,
 ) -> Result<(), AllocError>
     requires right { AreRightBelow (C.design cells.now) (C.wiring cells.now) (C.tables cells.now)
-        cell }
-    requires firsts { AreFirsts (C.design cells.now) (C.wiring cells.now) (C.tables cells.now) cell
-        firsts.now }
-    requires globals { globals ≡ length (C.wiring cells.now).globals }
+        globals.now.cell }
+    requires firsts { AreFirsts (C.design cells.now) (C.wiring cells.now) (C.tables cells.now)
+        globals.now.cell firsts.now }
     requires lines { (c g : ℕ) → IsGroundedBy lines.now c g ↔ IsGrounded (C.wiring cells.now) c g }
-    requires at { at ≡ globals_at (C.design cells.now) (C.wiring cells.now) (C.tables cells.now)
-        cell }
-    requires room { length (items_of (C.design cells.now) (C.wiring cells.now) (C.tables cells.now)
-        cell) ≤ 4294967295 }
+    requires globals { AreGlobals (C.design cells.now) (C.wiring cells.now) (C.tables cells.now)
+        globals.now }
     ensures { OnOk result (AddsToGlobals (C.design cells.now) (C.wiring cells.now)
-        (C.tables cells.now) cell IsAny out.old.items out.new.items) }
+        (C.tables cells.now) globals.now.cell IsAny out.old.items out.new.items) }
 {
-    ground_lines(cells, cell, lines, globals, at, out)?;
-    join_placements(cells, cell, firsts, globals, at, out)?;
+    ground_lines(cells, globals, lines, out)?;
+    join_placements(cells, globals, firsts, out)?;
     Ok(())
 }

@@ -1,4 +1,6 @@
 //! Pieces of a cell's nets in a window, by a walk through the cells below.
+//!
+//! A piece is a rectangle of a net that an instance below shows in the window.
 #![tactic(auto)]
 
 mod alike;
@@ -12,8 +14,8 @@ mod leaders;
 mod lyings;
 mod own;
 mod partners;
+mod placed;
 mod pushes;
-mod rects;
 mod seen;
 mod sums;
 mod together;
@@ -24,8 +26,9 @@ pub use alike::{relative, same_contacts};
 pub use beside::{all_beside, beside_law, beside_links};
 pub use cells::{Cells, Element};
 pub use children::{children_links, enough_pairs, link_pairs};
-pub use globals::{Grounded, global_links};
+pub use globals::{GlobalItems, Grounded, global_links};
 pub use own::own_links;
+pub use placed::{LinkSite, Placed};
 pub use seen::{pair_law, pair_links, see};
 pub use together::{all_links, count_items, first_places};
 pub use walk::collect_nets;

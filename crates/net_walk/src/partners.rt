@@ -6,13 +6,11 @@ ghost use Rattle.std.specs.Prelude.{IfOk, OnOk};
 ghost use Rattle.flat_layout.specs.Regions.{IsJoined};
 ghost use Rattle.net_link_laws.specs.Places.{owned_before, places_of};
 ghost use Rattle.net_walk.specs.Held.{IsOneOf};
-ghost use Rattle.net_walk.specs.Pairs.{AreSpanPieces};
 ghost use Rattle.net_walk.specs.Partners.{AddsPartner, AddsPartners, ArePartnerPieces};
-ghost use Rattle.net_walk.specs.Partners.{ArePartners, Keeps, TouchNone};
+ghost use Rattle.net_walk.specs.Partners.{ArePartners, AreSpans, Keeps, TouchNone};
 ghost use Rattle.net_walk.specs.Seen.{JoinsTwo};
 ghost use Rattle.net_walk.specs.Walk.{HasNone};
-ghost use Rattle.touching_pieces.specs.Pairs.{AreJoined, IsAmong};
-ghost use Rattle.touching_pieces.specs.declared.pieces.Piece.{Piece};
+ghost use Rattle.touching_pieces.specs.Pairs.{AreJoined};
 
 use crate::cells::{Cells, Element};
 use crate::children::span_pieces;
@@ -20,6 +18,15 @@ use crate::own::push_rects;
 use link_classes::Link;
 use std::alloc::{AllocError, Global};
 use touching_pieces::{Joined, Piece, touches, touching_pairs};
+
+// What bounds each placement of a cell, as pieces of the placements' numbers; as items these are
+// counted from the number of the cell's own rectangles on.
+#[derive(Clone, Copy)]
+struct Spans<'a> {
+    cell: u32,
+    pieces: &'a [Piece],
+    from: u32,
+}
 
 // Rectangles so few are held against what bounds each placement.
 const FEW: usize = 8;
@@ -118,26 +125,24 @@ fn push_partner<C: Cells>(
     Ok(())
 }
 
-// Of what bounds placements, counted from a number on, that of those that a rectangle may touch and
-// whose nets may hold something of one of these conductors.
+// Of what bounds placements, counted on, that of those that a rectangle may touch and whose nets
+// may hold something of one of these conductors.
 fn partner_pieces<C: Cells>(
     alloc: Global,
     cells: &C,
-    cell: u32,
-    spans: &[Piece],
+    spans: &Spans<'_>,
     ones: &[Piece],
     conductors: &[u32],
-    from: u32,
 ) -> Result<Vec<Piece>, AllocError>
-    requires spans { (o : Piece) → IsAmong o spans.now
-        → o.item < length (places_of (C.design cells.now) cell) }
-    requires room { from + length (places_of (C.design cells.now) cell) ≤ 4294967295 }
-    ensures { IfOk result (λ v. ArePartnerPieces (C.design cells.now) (C.tables cells.now) cell
-        conductors.now ones.now from spans.now v.items) }
+    requires spans { AreSpans (C.design cells.now) (C.wiring cells.now) (C.tables cells.now)
+        spans.now }
+    ensures { IfOk result (λ v. ArePartnerPieces (C.design cells.now) (C.tables cells.now)
+        spans.now.cell conductors.now ones.now spans.now.from spans.now.pieces.now v.items) }
 {
-    let elements = cells.places(cell);
+    let elements = cells.places(spans.cell);
+    let from = spans.from;
     let mut out = Vec::new(alloc);
-    for span in spans {
+    for span in spans.pieces {
         let number = span.item as usize;
         push_partner(
             cells,
@@ -153,37 +158,33 @@ fn partner_pieces<C: Cells>(
 }
 
 // Adds the pairs of one conductor's rectangles, which stand from a place on, and of placements,
-// counted from a number on.
+// counted on.
 fn push_partners<C: Cells>(
     alloc: Global,
     cells: &C,
-    cell: u32,
+    spans: &Spans<'_>,
     conductor: u32,
     at: u32,
-    spans: &[Piece],
-    from: u32,
     joins: &[Joined],
     out: &mut Vec<Link>,
 ) -> Result<(), AllocError>
     requires known { conductor < length (C.wiring cells.now).conductors }
-    requires at { at ≡ owned_before (C.tables cells.now) cell conductor }
-    requires spans { AreSpanPieces (C.design cells.now) (C.tables cells.now) cell
-        (length (places_of (C.design cells.now) cell)) spans.now }
-    requires from { from ≡ owned_before (C.tables cells.now) cell
-        (length (C.wiring cells.now).conductors) }
-    requires room { from + length (places_of (C.design cells.now) cell) ≤ 4294967295 }
+    requires at { at ≡ owned_before (C.tables cells.now) spans.now.cell conductor }
+    requires spans { AreSpans (C.design cells.now) (C.wiring cells.now) (C.tables cells.now)
+        spans.now }
     requires joins { (c e : ℕ) → AreJoined joins.now c e ↔ IsJoined (C.wiring cells.now) c e }
     ensures { OnOk result (AddsPartners (C.design cells.now) (C.wiring cells.now)
-        (C.tables cells.now) cell from conductor out.old.items out.new.items) }
+        (C.tables cells.now) spans.now.cell spans.now.from conductor out.old.items
+        out.new.items) }
 {
-    let own = cells.own(cell, conductor);
+    let own = cells.own(spans.cell, conductor);
     if own.is_empty() {
         return Ok(());
     }
     let mut ones = Vec::new(alloc);
     push_rects(own, conductor, at, &mut ones)?;
     let tied = joined_to(alloc, conductor, joins)?;
-    let partners = partner_pieces(alloc, cells, cell, spans, &ones, &tied, from)?;
+    let partners = partner_pieces(alloc, cells, spans, &ones, &tied)?;
     touching_pairs(alloc, &ones, &partners, out)?;
     Ok(())
 }
@@ -206,13 +207,16 @@ pub(crate) fn partners<C: Cells>(
     ensures { IfOk result (λ v. ArePartners (C.design cells.now) (C.wiring cells.now)
         (C.tables cells.now) cell from (length (C.wiring cells.now).conductors) v.items) }
 {
-    let spans = span_pieces(alloc, cells, cell)?;
+    let pieces = span_pieces(alloc, cells, cell)?;
+    let spans = Spans {
+        cell,
+        pieces: &pieces,
+        from,
+    };
     let mut pairs = Vec::new(alloc);
     let mut at: u32 = 0;
     for conductor in 0..cells.conductors() {
-        push_partners(
-            alloc, cells, cell, conductor, at, &spans, from, joins, &mut pairs,
-        )?;
+        push_partners(alloc, cells, &spans, conductor, at, joins, &mut pairs)?;
         at += cells.own(cell, conductor).len() as u32;
     }
     Ok(pairs)

@@ -9,7 +9,6 @@ ghost use Rattle.net_walk.specs.Walk.{AddsPieces, AreInside, AreListed, IsClippe
 ghost use Rattle.net_walk.specs.Walk.{IsOfMoved, IsOfOwn, IsOfOwnAt};
 ghost use Rattle.net_walk.specs.Windows.{AreOwnNear};
 
-use crate::rects::{common, is_rect};
 use geo_base::{Motion, Rect};
 use net_link_laws::NetPiece;
 use std::alloc::{AllocError, Global};
@@ -24,8 +23,8 @@ fn push_clipped(
     ensures { OnOk result (AddsPieces window.now (IsClipped window.now net rect.now) out.old.items
         out.new.items) }
 {
-    let part = common(rect, window);
-    if is_rect(&part) {
+    let part = rect.common(window);
+    if part.is_rect() {
         out.push(NetPiece { net, rect: part })?;
         return Ok(());
     }

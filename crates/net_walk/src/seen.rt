@@ -1,14 +1,15 @@
 //! Pieces of a placed cell's nets as the cell sees them.
 
-ghost use Rattle.std.specs.Prelude.{◌≡◌, ◌+◌, ◌<◌, ◌≤◌, OnOk, IfOk, length, ◌∷◌, []};
+ghost use Rattle.std.specs.Prelude.{◌≡◌, ◌<◌, OnOk, IfOk, length, ◌∷◌, []};
 ghost use Rattle.geo_base.specs.Near.{IsNearRect, IsNearMotion};
-ghost use Rattle.net_link_laws.specs.Laws.{AreNetsUnder};
 ghost use Rattle.net_walk.specs.Pairs.{PairLaw};
+ghost use Rattle.net_walk.specs.Placed.{HasNets, IsSight};
 ghost use Rattle.net_walk.specs.Seen.{AddsSeen, AreLinksOver, HaveItems, IsJoinedSeen, IsSeen};
 ghost use Rattle.net_walk.specs.Seen.{IsLineSeen, IsSeenAt, IsSeenOf, IsSeenOfTwo, IsSeenWhere};
-ghost use Rattle.net_walk.specs.Walk.{AreInside, IsInside, IsPart, place_of};
+ghost use Rattle.net_walk.specs.Walk.{AreInside, IsInside, place_of};
 
-use crate::cells::{Cells, Element};
+use crate::cells::Cells;
+use crate::placed::{Placed, Sight};
 use crate::walk::{collect_nets, part_of};
 use geo_base::{Motion, Rect};
 use link_classes::Link;
@@ -65,110 +66,101 @@ fn push_seen(
 fn see_conductor<C: Cells>(
     alloc: Global,
     cells: &C,
-    element: &Element,
+    sight: &Sight<'_>,
     conductor: u32,
-    window: &Rect,
-    inner: &Rect,
-    at: u32,
     out: &mut Vec<Piece>,
 ) -> Result<(), AllocError>
     requires known { conductor < length (C.wiring cells.now).conductors }
-    requires nets { AreNetsUnder (C.design cells.now) (C.wiring cells.now) (C.tables cells.now)
-        element.now.cell }
-    requires motion { IsNearMotion element.now.motion }
-    requires part { IsPart (C.design cells.now) (C.tables cells.now) (place_of element.now)
-        window.now inner.now }
-    requires room { at + ((C.tables cells.now).nets element.now.cell).count ≤ 4294967296 }
+    requires sight { IsSight (C.design cells.now) (C.wiring cells.now) (C.tables cells.now)
+        sight.now }
     ensures { OnOk result (AddsSeen (IsSeenAt (C.design cells.now) (C.tables cells.now)
-        (place_of element.now) window.now at conductor) out.old.items out.new.items) }
+        (place_of sight.now.placed.element.now) sight.now.window.now sight.now.placed.at conductor)
+        out.old.items out.new.items) }
 {
-    let _ = window;
-    let below = collect_nets(alloc, cells, element.cell, conductor, inner)?;
-    push_seen(&below, &element.motion, conductor, at, inner, out)?;
+    let element = sight.placed.element;
+    let below = collect_nets(alloc, cells, element.cell, conductor, &sight.inner)?;
+    push_seen(
+        &below,
+        &element.motion,
+        conductor,
+        sight.placed.at,
+        &sight.inner,
+        out,
+    )?;
     Ok(())
 }
 
 fn see_part<C: Cells>(
     alloc: Global,
     cells: &C,
-    element: &Element,
-    window: &Rect,
-    inner: &Rect,
-    at: u32,
+    sight: &Sight<'_>,
     out: &mut Vec<Piece>,
 ) -> Result<(), AllocError>
-    requires nets { AreNetsUnder (C.design cells.now) (C.wiring cells.now) (C.tables cells.now)
-        element.now.cell }
-    requires motion { IsNearMotion element.now.motion }
-    requires part { IsPart (C.design cells.now) (C.tables cells.now) (place_of element.now)
-        window.now inner.now }
-    requires room { at + ((C.tables cells.now).nets element.now.cell).count ≤ 4294967296 }
+    requires sight { IsSight (C.design cells.now) (C.wiring cells.now) (C.tables cells.now)
+        sight.now }
     ensures { OnOk result (AddsSeen (IsSeen (C.design cells.now) (C.tables cells.now)
-        (place_of element.now) window.now at (length (C.wiring cells.now).conductors)) out.old.items
-        out.new.items) }
+        (place_of sight.now.placed.element.now) sight.now.window.now sight.now.placed.at
+        (length (C.wiring cells.now).conductors)) out.old.items out.new.items) }
 {
     for conductor in 0..cells.conductors() {
-        see_conductor(alloc, cells, element, conductor, window, inner, at, out)?;
+        see_conductor(alloc, cells, sight, conductor, out)?;
     }
     Ok(())
 }
 
-/// What the nets of a placed cell hold in the window, as pieces of the items that stand from a
+/// What the nets of a placed cell hold in the window, as pieces of the items that stand from its
 /// place on.
 pub fn see<C: Cells>(
     alloc: Global,
     cells: &C,
-    element: &Element,
+    placed: &Placed<'_>,
     window: &Rect,
-    at: u32,
     out: &mut Vec<Piece>,
 ) -> Result<(), AllocError>
-    requires nets { AreNetsUnder (C.design cells.now) (C.wiring cells.now) (C.tables cells.now)
-        element.now.cell }
-    requires motion { IsNearMotion element.now.motion }
+    requires placed { HasNets (C.design cells.now) (C.wiring cells.now) (C.tables cells.now)
+        placed.now }
     requires near { IsNearRect window.now }
-    requires room { at + ((C.tables cells.now).nets element.now.cell).count ≤ 4294967296 }
     ensures { OnOk result (AddsSeen (IsSeen (C.design cells.now) (C.tables cells.now)
-        (place_of element.now) window.now at (length (C.wiring cells.now).conductors)) out.old.items
-        out.new.items) }
+        (place_of placed.now.element.now) window.now placed.now.at
+        (length (C.wiring cells.now).conductors)) out.old.items out.new.items) }
 {
-    match part_of(cells, element, window) {
+    match part_of(cells, placed.element, window) {
         None => Ok(()),
-        Some(inner) => see_part(alloc, cells, element, window, &inner, at, out),
+        Some(inner) => {
+            let sight = Sight {
+                placed: *placed,
+                window,
+                inner,
+            };
+            see_part(alloc, cells, &sight, out)
+        }
     }
 }
 
-// The same of a conductor, where two others are one: nothing where these differ, or where there is no
-// such conductor.
-fn see_where<C: Cells>(
+// The same of a line's second conductor, where its first is this one: nothing where it isn't, or
+// where there is no such second one.
+fn see_second<C: Cells>(
     alloc: Global,
     cells: &C,
-    element: &Element,
-    one: u32,
+    sight: &Sight<'_>,
+    line: &Joined,
     conductor: u32,
-    other: u32,
-    window: &Rect,
-    inner: &Rect,
-    at: u32,
     out: &mut Vec<Piece>,
 ) -> Result<(), AllocError>
-    requires nets { AreNetsUnder (C.design cells.now) (C.wiring cells.now) (C.tables cells.now)
-        element.now.cell }
-    requires motion { IsNearMotion element.now.motion }
-    requires part { IsPart (C.design cells.now) (C.tables cells.now) (place_of element.now)
-        window.now inner.now }
-    requires room { at + ((C.tables cells.now).nets element.now.cell).count ≤ 4294967296 }
-    ensures { OnOk result (AddsSeen (IsSeenWhere (C.design cells.now) (C.tables cells.now) one
-        conductor other (place_of element.now) window.now at
-        (length (C.wiring cells.now).conductors)) out.old.items out.new.items) }
+    requires sight { IsSight (C.design cells.now) (C.wiring cells.now) (C.tables cells.now)
+        sight.now }
+    ensures { OnOk result (AddsSeen (IsSeenWhere (C.design cells.now) (C.tables cells.now)
+        line.now.first conductor line.now.second (place_of sight.now.placed.element.now)
+        sight.now.window.now sight.now.placed.at (length (C.wiring cells.now).conductors))
+        out.old.items out.new.items) }
 {
-    if one != conductor {
+    if line.first != conductor {
         return Ok(());
     }
-    if other >= cells.conductors() {
+    if line.second >= cells.conductors() {
         return Ok(());
     }
-    see_conductor(alloc, cells, element, other, window, inner, at, out)?;
+    see_conductor(alloc, cells, sight, line.second, out)?;
     Ok(())
 }
 
@@ -176,32 +168,23 @@ fn see_where<C: Cells>(
 fn see_line<C: Cells>(
     alloc: Global,
     cells: &C,
-    element: &Element,
+    sight: &Sight<'_>,
     line: &Joined,
     conductor: u32,
-    window: &Rect,
-    inner: &Rect,
-    at: u32,
     out: &mut Vec<Piece>,
 ) -> Result<(), AllocError>
-    requires nets { AreNetsUnder (C.design cells.now) (C.wiring cells.now) (C.tables cells.now)
-        element.now.cell }
-    requires motion { IsNearMotion element.now.motion }
-    requires part { IsPart (C.design cells.now) (C.tables cells.now) (place_of element.now)
-        window.now inner.now }
-    requires room { at + ((C.tables cells.now).nets element.now.cell).count ≤ 4294967296 }
+    requires sight { IsSight (C.design cells.now) (C.wiring cells.now) (C.tables cells.now)
+        sight.now }
     ensures { OnOk result (AddsSeen (IsLineSeen (C.design cells.now) (C.tables cells.now) line.now
-        conductor (place_of element.now) window.now at
+        conductor (place_of sight.now.placed.element.now) sight.now.window.now sight.now.placed.at
         (length (C.wiring cells.now).conductors)) out.old.items out.new.items) }
 {
-    let first = line.first;
-    let second = line.second;
-    see_where(
-        alloc, cells, element, first, conductor, second, window, inner, at, out,
-    )?;
-    see_where(
-        alloc, cells, element, second, conductor, first, window, inner, at, out,
-    )?;
+    see_second(alloc, cells, sight, line, conductor, out)?;
+    let turned = Joined {
+        first: line.second,
+        second: line.first,
+    };
+    see_second(alloc, cells, sight, &turned, conductor, out)?;
     Ok(())
 }
 
@@ -210,31 +193,24 @@ fn see_line<C: Cells>(
 fn see_joined_part<C: Cells>(
     alloc: Global,
     cells: &C,
-    element: &Element,
-    window: &Rect,
-    inner: &Rect,
-    at: u32,
+    sight: &Sight<'_>,
     conductor: u32,
     joins: &[Joined],
     out: &mut Vec<Piece>,
 ) -> Result<(), AllocError>
-    requires nets { AreNetsUnder (C.design cells.now) (C.wiring cells.now) (C.tables cells.now)
-        element.now.cell }
-    requires motion { IsNearMotion element.now.motion }
-    requires part { IsPart (C.design cells.now) (C.tables cells.now) (place_of element.now)
-        window.now inner.now }
-    requires room { at + ((C.tables cells.now).nets element.now.cell).count ≤ 4294967296 }
+    requires sight { IsSight (C.design cells.now) (C.wiring cells.now) (C.tables cells.now)
+        sight.now }
     ensures { OnOk result (AddsSeen (IsJoinedSeen (C.design cells.now) (C.tables cells.now)
-        joins.now conductor (place_of element.now) window.now at
-        (length (C.wiring cells.now).conductors)) out.old.items out.new.items) }
+        joins.now conductor (place_of sight.now.placed.element.now) sight.now.window.now
+        sight.now.placed.at (length (C.wiring cells.now).conductors)) out.old.items out.new.items) }
 {
-    see_where(
-        alloc, cells, element, conductor, conductor, conductor, window, inner, at, out,
-    )?;
+    let itself = Joined {
+        first: conductor,
+        second: conductor,
+    };
+    see_second(alloc, cells, sight, &itself, conductor, out)?;
     for line in joins {
-        see_line(
-            alloc, cells, element, line, conductor, window, inner, at, out,
-        )?;
+        see_line(alloc, cells, sight, line, conductor, out)?;
     }
     Ok(())
 }
@@ -243,60 +219,54 @@ fn see_joined_part<C: Cells>(
 pub fn see_joined<C: Cells>(
     alloc: Global,
     cells: &C,
-    element: &Element,
+    placed: &Placed<'_>,
     window: &Rect,
-    at: u32,
     conductor: u32,
     joins: &[Joined],
     out: &mut Vec<Piece>,
 ) -> Result<(), AllocError>
-    requires nets { AreNetsUnder (C.design cells.now) (C.wiring cells.now) (C.tables cells.now)
-        element.now.cell }
-    requires motion { IsNearMotion element.now.motion }
+    requires placed { HasNets (C.design cells.now) (C.wiring cells.now) (C.tables cells.now)
+        placed.now }
     requires near { IsNearRect window.now }
-    requires room { at + ((C.tables cells.now).nets element.now.cell).count ≤ 4294967296 }
     ensures { OnOk result (AddsSeen (IsJoinedSeen (C.design cells.now) (C.tables cells.now)
-        joins.now conductor (place_of element.now) window.now at
+        joins.now conductor (place_of placed.now.element.now) window.now placed.now.at
         (length (C.wiring cells.now).conductors)) out.old.items out.new.items) }
 {
-    match part_of(cells, element, window) {
+    match part_of(cells, placed.element, window) {
         None => Ok(()),
-        Some(inner) => see_joined_part(
-            alloc, cells, element, window, &inner, at, conductor, joins, out,
-        ),
+        Some(inner) => {
+            let sight = Sight {
+                placed: *placed,
+                window,
+                inner,
+            };
+            see_joined_part(alloc, cells, &sight, conductor, joins, out)
+        }
     }
 }
 
-/// Links whose chains join the items of two placed cells' nets that touch in the window; their items
-/// stand from two places on. Two walks a conductor, and near n log n for n pieces that they find. An
-/// `Err` is want of memory.
+/// Links whose chains join the items of two placed cells' nets that touch in the window. Two walks
+/// a conductor, and near n log n for n pieces that they find. An `Err` is want of memory.
 pub fn pair_links<C: Cells>(
     alloc: Global,
     cells: &C,
-    one: &Element,
-    at: u32,
-    other: &Element,
-    other_at: u32,
+    one: &Placed<'_>,
+    other: &Placed<'_>,
     window: &Rect,
     joins: &[Joined],
 ) -> Result<Vec<Link>, AllocError>
-    requires nets { AreNetsUnder (C.design cells.now) (C.wiring cells.now) (C.tables cells.now)
-        one.now.cell }
-    requires nets_too { AreNetsUnder (C.design cells.now) (C.wiring cells.now) (C.tables cells.now)
-        other.now.cell }
-    requires motion { IsNearMotion one.now.motion }
-    requires motion_too { IsNearMotion other.now.motion }
+    requires one { HasNets (C.design cells.now) (C.wiring cells.now) (C.tables cells.now) one.now }
+    requires other { HasNets (C.design cells.now) (C.wiring cells.now) (C.tables cells.now)
+        other.now }
     requires near { IsNearRect window.now }
-    requires room { at + ((C.tables cells.now).nets one.now.cell).count ≤ 4294967296 }
-    requires room_too { other_at + ((C.tables cells.now).nets other.now.cell).count ≤ 4294967296 }
     ensures { IfOk result (λ v. AreLinksOver joins.now
         (IsSeenOfTwo (C.design cells.now) (C.tables cells.now) window.now
-        (length (C.wiring cells.now).conductors) (place_of one.now) at (place_of other.now)
-        other_at) v.items) }
+        (length (C.wiring cells.now).conductors) (place_of one.now.element.now) one.now.at
+        (place_of other.now.element.now) other.now.at) v.items) }
 {
     let mut pieces = Vec::new(alloc);
-    see(alloc, cells, one, window, at, &mut pieces)?;
-    see(alloc, cells, other, window, other_at, &mut pieces)?;
+    see(alloc, cells, one, window, &mut pieces)?;
+    see(alloc, cells, other, window, &mut pieces)?;
     let links = touching_links(alloc, &pieces, cells.conductors(), joins)?;
     Ok(links)
 }

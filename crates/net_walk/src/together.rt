@@ -12,8 +12,9 @@ ghost use Rattle.touching_pieces.specs.Pairs.{AreJoined};
 use crate::beside::all_beside;
 use crate::cells::Cells;
 use crate::children::children_links;
-use crate::globals::{Grounded, global_links};
+use crate::globals::{GlobalItems, Grounded, global_links};
 use crate::own::own_links;
+use crate::placed::LinkSite;
 use crate::sums::more;
 use crate::walk::owned_before;
 use link_classes::Link;
@@ -102,16 +103,18 @@ pub fn all_links<C: Cells>(
 {
     let firsts = first_places(alloc, cells, cell)?;
     let mut links = own_links(alloc, cells, cell, joins)?;
-    children_links(alloc, cells, cell, &firsts, joins, &mut links)?;
-    all_beside(alloc, cells, cell, &firsts, joins, &mut links)?;
-    global_links(
-        cells,
+    let site = LinkSite {
         cell,
-        &firsts,
-        lines,
-        globals,
-        items - globals,
-        &mut links,
-    )?;
+        firsts: &firsts,
+        joins,
+    };
+    children_links(alloc, cells, &site, &mut links)?;
+    all_beside(alloc, cells, &site, &mut links)?;
+    let globals = GlobalItems {
+        cell,
+        count: globals,
+        at: items - globals,
+    };
+    global_links(cells, &globals, &firsts, lines, &mut links)?;
     Ok(links)
 }

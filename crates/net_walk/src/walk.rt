@@ -12,7 +12,6 @@ ghost use Rattle.geo_base.specs.declared.shapes.Square.{Square};
 
 use crate::cells::{Cells, Element};
 use crate::pushes::{push_moved, push_own};
-use crate::rects::{common, is_rect};
 use geo_base::{Motion, Rect};
 use net_link_laws::NetPiece;
 use std::alloc::{AllocError, Global};
@@ -28,8 +27,8 @@ fn part_in(hull: &Rect, motion: &Motion, window: &Rect) -> Option<Rect>
         → IsIn (moved_square motion.now m) window.now → ⊥) }
 {
     let span = motion.rect(*hull);
-    let part = common(&span, window);
-    if is_rect(&part) {
+    let part = span.common(window);
+    if part.is_rect() {
         return Some(motion.inverse().rect(part));
     }
     None

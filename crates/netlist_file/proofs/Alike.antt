@@ -44,7 +44,7 @@ use Rattle.plain_netlist.specs.Netlist.{CallRow, Circuit, Netlist}
 use Rattle.rule_layers.specs.Meaning.{device_rules, wiring_of}
 use Rattle.rule_text.specs.Rules.{Rules}
 use Rattle.shapes_file.proofs.OneFile.{same_plain}
-use Rattle.spice_laws.specs.Once.{OneTextLaw}
+use Rattle.netlist_file.specs.Once.{OneTextLaw}
 use Rattle.spice_text.specs.Written.{IsWritten}
 use Rattle.table_laws.proofs.Circuited.{one_circuit}
 use Rattle.table_laws.proofs.Drawing.{one_drawn}

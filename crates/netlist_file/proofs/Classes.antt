@@ -14,8 +14,8 @@ use Rattle.rule_text.specs.declared.rules.MoreRule.TheVariants as more
 use Rattle.rule_text.specs.Rows.{is_printable, is_string}
 use Rattle.rule_text.specs.Rules.{Rules}
 use Rattle.rule_text.specs.Sound.{IsFormed}
-use Rattle.spice_laws.specs.Extracted.{AreClassed, IsClassed}
-use Rattle.spice_laws.proofs.GivenLemmas.{folded_fixed}
+use Rattle.netlist_file.specs.Extracted.{AreClassed, IsClassed}
+use Rattle.netlist_file.proofs.GivenLemmas.{folded_fixed}
 use Rattle.spice_rows.specs.Rows.{is_class}
 
 -- a printable byte that is folded is neither 1 nor 2

@@ -13,7 +13,7 @@ use Rattle.netlist_file.proofs.Classes.{classed}
 use Rattle.netlist_file.proofs.Showing.{all_bad, all_told, no_bad}
 use Rattle.netlist_file.proofs.Topmost.{last}
 use Rattle.rule_layers.specs.Meaning.{device_rules, wiring_of}
-use Rattle.spice_laws.specs.Extracted.{ExtractedMeansLaw}
+use Rattle.netlist_file.specs.Extracted.{ExtractedMeansLaw}
 use Rattle.spice_text.specs.Laws.{OneMeaningLaw}
 use Rattle.table_laws.specs.BadLaws.{BadListedLaw}
 

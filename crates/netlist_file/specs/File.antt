@@ -24,7 +24,7 @@ use Rattle.plain_netlist.specs.Normal.{IsNormalNetlist}
 use Rattle.plain_netlist.specs.Sound.{IsSoundNetlist}
 use Rattle.rule_text.specs.Rules.{Rules}
 use Rattle.shapes_file.specs.File.{IsShapesFile, IsWide}
-use Rattle.spice_laws.specs.Spelled.{IsSpelled}
+use Rattle.netlist_file.specs.Spelled.{IsSpelled}
 use Rattle.spice_text.specs.Written.{IsWritten}
 
 -- the netlist of the layout's cells, in which circuit top is the top's, their bad gates in the

@@ -1,3 +1,6 @@
 pub mod File
 pub mod Flat
 pub mod One
+pub mod Extracted
+pub mod Once
+pub mod Spelled

@@ -11,6 +11,7 @@ ghost use Rattle.rule_text.specs.Sound.{IsSound};
 ghost use Rattle.shapes_file.specs.File.{IsDrawing};
 ghost use Rattle.spice_text.specs.Written.{IsWritten};
 
+use crate::{extracted_text, spelled};
 use deep_flow::extract;
 use deep_tables::{BadGate, Layers};
 use gds_layout::Layout;
@@ -18,7 +19,6 @@ use job_board::{Crew, Gate};
 use net_model::Netlist;
 use rule_text::RuleSet;
 use shapes_file::{Drawing, Shapes, shapes_of_layers};
-use spice_laws::{extracted_text, spelled};
 use spice_text::write_spice;
 use std::alloc::{AllocError, Global};
 use std::sync::Wait;

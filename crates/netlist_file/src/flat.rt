@@ -2,10 +2,10 @@
 
 ghost use Rattle.netlist_file.specs.Flat.{ShowsFlatLaw};
 
+use crate::extracted_text;
 use cell_graph::design_laws;
 use flat_laws::{flat_gates, verdicts};
 use headline_laws::flat_layouts;
-use spice_laws::extracted_text;
 use spice_text::written_laws;
 use table_laws::bad_gates;
 

@@ -2,10 +2,10 @@
 
 ghost use Rattle.netlist_file.specs.One.{OneNetlistLaw, OneOrderLaw};
 
+use crate::one_text;
 use cell_graph::design_laws;
 use gds_elements::one_meaning;
 use gds_layout::one_layout;
-use spice_laws::one_text;
 
 /// The netlists of one stream by the same rules are the same, with the same top and bad gates, and
 /// so are their texts, byte for byte, and the order of the cells that the top reaches.

@@ -2,5 +2,7 @@
 #![tactic(auto)]
 
 mod cleaning;
+mod laws;
 
 pub use cleaning::{Cleaned, clean_line};
+pub use laws::line_laws;

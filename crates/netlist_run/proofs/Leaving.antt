@@ -14,9 +14,9 @@ use Rattle.netlist_join.specs.Loaded.{AreFiles, StartsWith, paths_of}
 use Rattle.netlist_turn.specs.Made.{Made}
 use Rattle.netlist_turn.specs.Turning.{turned}
 use Rattle.netlist_turn.specs.declared.settings.Settings.{Settings}
-use Rattle.netlist_told.specs.Sums.{told_text}
-use Rattle.netlist_plan.specs.Marks.{IsPlan}
-use Rattle.netlist_plan.specs.declared.plan.Leaving.{Leaving}
+use Rattle.netlist_run.specs.Sums.{told_text}
+use Rattle.netlist_run.specs.Marks.{IsPlan}
+use Rattle.netlist_run.specs.declared.plan.Leaving.{Leaving}
 use Rattle.netlist_run.specs.Ends.{AtFile, AtInput, AtLines, AtRefusal, Delivers, Ends, IsReady, IsRefused, Same, Sends, SendsStop, ShowsStop, Stopped, Words, Wrote, WrotePart}
 use Rattle.netlist_run.specs.Accepted.{IsAccepted, IsOutput, IsPrepared, IsJoined, AreLoaded, Stops, Lacks, NotRead, NotMade, Reads, NotJoined, Makes}
 use Rattle.netlist_run.specs.Words.{Asked, is_same}

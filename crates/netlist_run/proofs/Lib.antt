@@ -1,3 +1,8 @@
 mod WordLemmas
 mod Refusing
 mod Leaving
+pub mod ToldLemmas
+mod Marking
+mod Walking
+mod Plans
+mod Rows

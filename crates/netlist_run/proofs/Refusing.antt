@@ -26,8 +26,8 @@ use Rattle.netlist_turn.specs.Seen.{SaysFault as SaysTurnFault}
 use Rattle.netlist_turn.specs.declared.fault.TurnFault.{TurnFault}
 use Rattle.netlist_turn.specs.declared.fault.TurnFault.TheVariants as turn
 use Rattle.netlist_turn.specs.declared.settings.Settings.{Settings}
-use Rattle.netlist_plan.specs.Defined.{defined, SaysFault as SaysPlanFault}
-use Rattle.netlist_plan.specs.Marks.{IsPlan}
+use Rattle.netlist_run.specs.Defined.{defined, SaysFault as SaysPlanFault}
+use Rattle.netlist_run.specs.Marks.{IsPlan}
 use Rattle.netlist_run.specs.Accepted.{NotRead, NotMade, Defines, NoTop, Turns, Reads, Memory, NotJoined, Joins, Makes, NoRoom}
 use Rattle.netlist_run.specs.Ends.{ShowsStop}
 use Rattle.netlist_run.specs.declared.run.Output.{Output}

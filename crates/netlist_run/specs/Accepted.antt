@@ -21,9 +21,9 @@ use Rattle.netlist_turn.specs.Made.{Made}
 use Rattle.netlist_turn.specs.Turning.{turned}
 use Rattle.netlist_turn.specs.declared.fault.TurnFault.{TurnFault}
 use Rattle.netlist_turn.specs.declared.settings.Settings.{Settings}
-use Rattle.netlist_told.specs.Sums.{told_text}
-use Rattle.netlist_plan.specs.Defined.{defined}
-use Rattle.netlist_plan.specs.Marks.{IsPlan}
+use Rattle.netlist_run.specs.Sums.{told_text}
+use Rattle.netlist_run.specs.Defined.{defined}
+use Rattle.netlist_run.specs.Marks.{IsPlan}
 use Rattle.netlist_run.specs.Lines.{Says, SaysJoin, SaysLoad, SaysSpice, SaysTurn, no_top_line}
 use Rattle.netlist_run.specs.Words.{Asked}
 use Rattle.netlist_run.specs.declared.status.Stop.{Stop}

@@ -3,3 +3,11 @@ pub mod Words
 pub mod Lines
 pub mod Accepted
 pub mod Ends
+pub mod Places
+pub mod Sums
+pub mod SumsSeen
+pub mod Defined
+pub mod Circuits
+pub mod CircuitsSeen
+pub mod Marks
+pub mod Work

@@ -13,7 +13,7 @@ use Rattle.netlist_join.specs.declared.join.JoinFault.TheVariants as joining
 use Rattle.netlist_join.specs.declared.join.Origin.{Origin}
 use Rattle.netlist_join.specs.declared.join.Why.{Why}
 use Rattle.netlist_join.specs.declared.join.Why.TheVariants as why
-use Rattle.netlist_told.specs.Places.{place_text, origin_of}
+use Rattle.netlist_run.specs.Places.{place_text, origin_of}
 use Rattle.netlist_turn.specs.declared.fault.TurnFault.{TurnFault}
 use Rattle.netlist_turn.specs.declared.fault.TurnFault.TheVariants as turn
 use Rattle.netlist_run.specs.declared.status.Stop.{Stop}

@@ -6,7 +6,7 @@ use Rattle.std.specs.List.{position_or_len, before_first, after_first}
 use Rattle.std.specs.Borrow.{Bor}
 use Rattle.std.specs.Option.{option_map}
 use Rattle.std.specs.Str.{bytes_eq}
-use Rattle.netlist_plan.specs.declared.plan.Leaving.{Leaving}
+use Rattle.netlist_run.specs.declared.plan.Leaving.{Leaving}
 use Rattle.netlist_join.specs.Loaded.{has_path, has_twins}
 use Rattle.netlist_run.specs.declared.words.Command.{Command}
 use Rattle.netlist_run.specs.declared.words.Reading.{Reading}

@@ -2,9 +2,17 @@
 //! and what it tells.
 #![tactic(auto)]
 
+mod circuits;
 mod lines;
+mod params;
+mod place;
+mod plan;
+mod reach;
 mod run;
 mod status;
+mod sums;
+mod tally;
+mod told;
 mod words;
 
 pub use run::run_netlist;

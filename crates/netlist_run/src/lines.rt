@@ -8,9 +8,9 @@ ghost use Rattle.netlist_run.specs.Lines.{StopsWith};
 ghost use Rattle.netlist_run.specs.Lines.{fault_line, fault_number, no_top_line, refusal};
 ghost use Rattle.netlist_run.specs.Lines.{turn_line, turn_text, why_text};
 
+use crate::place::{origin_of, push_place};
 use crate::status::Stop;
 use netlist_join::{Failed, File, JoinFault, Origin, Why};
-use netlist_told::{origin_of, push_place};
 use netlist_turn::TurnFault;
 use spice_rows::SpiceFault;
 use std::alloc::{AllocError, Global};

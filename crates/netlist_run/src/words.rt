@@ -7,7 +7,7 @@ ghost use Rattle.netlist_run.specs.Words.{AreParts, asked, asked_seen, flag_of, 
 ghost use Rattle.netlist_run.specs.Words.{nothing, whole, with_flag, with_input, with_option};
 ghost use Rattle.netlist_run.specs.Words.{with_out, with_top, with_word, with_words, words_seen};
 
-use netlist_plan::Leaving;
+use crate::plan::Leaving;
 use std::alloc::{AllocError, Global};
 
 /// What the words ask for.

@@ -43,6 +43,14 @@ pub enum Where {
     Left,
 }
 
+/// How a card begins: its line, what its first word makes of it, and that word.
+#[derive(Clone, Copy)]
+pub struct Head<'a> {
+    pub line: u64,
+    pub row: Row,
+    pub first: &'a [u8],
+}
+
 /// What was made of cards: the text, the line of the card that each of its lines was, the changes
 /// in their order, and where the next card stands.
 #[derive(Drop)]
@@ -225,15 +233,14 @@ impl<'a> Turned<'a> {
         &mut self,
         alloc: Global,
         settings: &Settings,
-        row: Row,
-        line: u64,
-        first: &'a [u8],
+        head: Head<'a>,
         words: &[&'a [u8]],
         params: &[Param<'a>],
     ) -> Result<(), AllocError>
-        ensures { OnOk result (seen self.new ≡ card_made settings.now row (seen self.old) line
-            first.now (words_seen words.now) (params_seen params.now)) }
+        ensures { OnOk result (seen self.new ≡ card_made settings.now head.entry.row (seen self.old)
+            head.entry.line head.entry.first.now (words_seen words.now) (params_seen params.now)) }
     {
+        let Head { line, row, first } = head;
         self.push_word(line, first)?;
         self.push_words(row, line, words)?;
         self.push_params(alloc, settings, row, line, params)?;

@@ -10,7 +10,7 @@ ghost use Rattle.netlist_turn.specs.Turning.{fate_of, is_opening, is_out, left_a
 ghost use Rattle.netlist_turn.specs.Turning.{opened, turned, turning, word_taken};
 
 use crate::fault::TurnFault;
-use crate::made::{Kind, Turned, Where};
+use crate::made::{Head, Kind, Turned, Where};
 use crate::rows::{Row, changes_sizes, row_of};
 use crate::settings::{Settings, has_shadow, is_left};
 use spice_cards::{CardReader, Token, read_params, read_words};
@@ -98,17 +98,17 @@ fn take_by_fate<'a>(
     alloc: Global,
     settings: &Settings,
     made: &mut Turned<'a>,
-    line: u64,
-    row: Row,
-    first: &'a [u8],
+    head: Head<'a>,
     behind: &[Token<'a>],
     fate: Fate,
 ) -> Result<(), TurnFault>
-    ensures made { OnOk result (by_fate settings.now row (seen made.old) line first.now
-        (tokens_seen behind.now) fate ≡ Ok (seen made.new)) }
-    ensures fault { IfErr result (λ e. SaysFault e (by_fate settings.now row (seen made.old) line
-        first.now (tokens_seen behind.now) fate)) }
+    ensures made { OnOk result (by_fate settings.now head.entry.row (seen made.old) head.entry.line
+        head.entry.first.now (tokens_seen behind.now) fate ≡ Ok (seen made.new)) }
+    ensures fault { IfErr result (λ e. SaysFault e (by_fate settings.now head.entry.row
+        (seen made.old)
+        head.entry.line head.entry.first.now (tokens_seen behind.now) fate)) }
 {
+    let Head { line, row, first } = head;
     match fate {
         Fate::Refuses => Err(TurnFault::UnknownCard(line)),
         Fate::Drops => {
@@ -128,7 +128,7 @@ fn take_by_fate<'a>(
             if is_opening(row) && has_shadow(alloc, settings, &params)? {
                 return Err(TurnFault::Shadowed(line));
             }
-            made.push_card(alloc, settings, row, line, first, &words, &params)?;
+            made.push_card(alloc, settings, head, &words, &params)?;
             Ok(())
         }
     }
@@ -177,7 +177,8 @@ fn take_word<'a>(
     let left = left_at(alloc, settings, row, behind)?;
     let fate = fate_of(settings, made.at, row, left);
     made.at = after(made.at, row, left);
-    take_by_fate(alloc, settings, made, line, row, first, behind, fate)
+    let head = Head { line, row, first };
+    take_by_fate(alloc, settings, made, head, behind, fate)
 }
 
 // Takes a card.

@@ -4,4 +4,5 @@ pub mod Parts
 pub mod Nets
 pub mod Made
 pub mod Origins
+pub mod Source
 pub mod Laws

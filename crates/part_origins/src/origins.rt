@@ -5,9 +5,10 @@ ghost use Rattle.align_laws.specs.Lists.{given_of};
 ghost use Rattle.net_model.specs.Rows.{plain_circuit, plain_netlist};
 ghost use Rattle.part_origins.specs.Inside.{all_inside, plain_inside, plain_spot};
 ghost use Rattle.part_origins.specs.Made.{held_of, inside_at, made_origins, net_numbers};
-ghost use Rattle.part_origins.specs.Made.{origins_by, origins_from, origins_of, origins_with};
+ghost use Rattle.part_origins.specs.Made.{origins_by, origins_with};
 ghost use Rattle.part_origins.specs.Made.{plain_all, plain_origins};
 ghost use Rattle.part_origins.specs.Origins.{AreNamedApart, HaveOrigins};
+ghost use Rattle.part_origins.specs.Source.{all_in, origins_in};
 ghost use Rattle.plain_netlist.specs.Sound.{IsGood};
 
 use crate::inside::{Inside, Part, Spot, all_inside};
@@ -35,6 +36,15 @@ pub struct CircuitOrigins {
 pub struct Origins {
     pub insides: Vec<Inside>,
     pub circuits: Vec<CircuitOrigins>,
+}
+
+/// A netlist that was aligned, what stands inside each of its circuits, and the number that each
+/// has in the aligned netlist, none where it isn't kept.
+#[derive(Clone, Copy)]
+struct Source<'a> {
+    written: &'a Netlist,
+    insides: &'a [Inside],
+    numbers: &'a [Option<u32>],
 }
 
 fn spots_of(insides: &[Inside], c: u32) -> &[Spot]
@@ -87,22 +97,19 @@ fn net_numbers(
 
 fn origins_of(
     alloc: Global,
-    written: &Netlist,
-    insides: &[Inside],
-    numbers: &[Option<u32>],
+    source: &Source<'_>,
     held: &[Vec<u32>],
     c: u32,
     aligned: &Circuit,
 ) -> Result<CircuitOrigins, AllocError>
-    ensures made { IfOk result (λ x. plain_origins x ≡ origins_of (plain_netlist written.now)
-        (map plain_inside insides.now) numbers.now (map (λ p. p.items) held.now) c
-        (plain_circuit aligned.now)) }
-    ensures nets { IfOk result (λ x. x.nets.items ≡ (origins_of (plain_netlist written.now)
-        (map plain_inside insides.now) numbers.now (map (λ p. p.items) held.now) c
-        (plain_circuit aligned.now)).nets) }
+    ensures made { IfOk result (λ x. plain_origins x ≡ origins_in source.now
+        (map (λ p. p.items) held.now) c (plain_circuit aligned.now)) }
+    ensures nets { IfOk result (λ x. x.nets.items ≡ (origins_in source.now
+        (map (λ p. p.items) held.now) c (plain_circuit aligned.now)).nets) }
 {
-    let spots = spots_of(insides, c);
-    let count = count_of(insides, c);
+    let (written, numbers) = (source.written, source.numbers);
+    let spots = spots_of(source.insides, c);
+    let count = count_of(source.insides, c);
     Ok(CircuitOrigins {
         circuit: c,
         devices: device_parts(alloc, written, spots)?,
@@ -134,25 +141,22 @@ fn add_pins(held: &mut Vec<Vec<u32>>, pins: Vec<u32>) -> Result<(), AllocError>
 // Adds the origins of circuit c, which is this one of the aligned netlist, and its held pins.
 fn add_origins(
     alloc: Global,
-    written: &Netlist,
-    insides: &[Inside],
-    numbers: &[Option<u32>],
+    source: &Source<'_>,
     c: u32,
     aligned: &Circuit,
     held: &mut Vec<Vec<u32>>,
     found: &mut Vec<CircuitOrigins>,
 ) -> Result<(), AllocError>
     ensures found { OnOk result (map plain_origins found.new.items
-        ≡ map plain_origins found.old.items ++ origins_of (plain_netlist written.now)
-        (map plain_inside insides.now) numbers.now (map (λ p. p.items) held.old.items) c
-        (plain_circuit aligned.now) ∷ []) }
+        ≡ map plain_origins found.old.items ++ origins_in source.now
+        (map (λ p. p.items) held.old.items) c (plain_circuit aligned.now) ∷ []) }
     ensures held { OnOk result (map (λ p. p.items) held.new.items
-        ≡ map (λ p. p.items) held.old.items ++ held_of (plain_netlist written.now) c
-        (origins_of (plain_netlist written.now) (map plain_inside insides.now) numbers.now
-        (map (λ p. p.items) held.old.items) c (plain_circuit aligned.now)).nets ∷ []) }
+        ≡ map (λ p. p.items) held.old.items ++ held_of (plain_netlist source.now.written.now) c
+        (origins_in source.now (map (λ p. p.items) held.old.items) c
+        (plain_circuit aligned.now)).nets ∷ []) }
 {
-    let one = origins_of(alloc, written, insides, numbers, held, c, aligned)?;
-    add_pins(held, held_of(alloc, written, c, &one.nets)?)?;
+    let one = origins_of(alloc, source, held, c, aligned)?;
+    add_pins(held, held_of(alloc, source.written, c, &one.nets)?)?;
     found.push(one)?;
     Ok(())
 }
@@ -161,15 +165,12 @@ fn add_origins(
 // in the given netlist.
 fn all_origins(
     alloc: Global,
-    written: &Netlist,
-    insides: &[Inside],
-    numbers: &[Option<u32>],
+    source: &Source<'_>,
     kept: &[u32],
     aligned: &[Circuit],
 ) -> Result<Vec<CircuitOrigins>, AllocError>
-    ensures { IfOk result (λ v. map plain_origins v.items
-        ≡ origins_from (plain_netlist written.now) (map plain_inside insides.now) numbers.now
-        kept.now 0 [] (map plain_circuit aligned.now)) }
+    ensures { IfOk result (λ v. map plain_origins v.items ≡ all_in source.now kept.now 0 []
+        (map plain_circuit aligned.now)) }
 {
     number(aligned.len())?;
     let mut held: Vec<Vec<u32>> = Vec::new(alloc);
@@ -178,9 +179,7 @@ fn all_origins(
     let mut rest = aligned;
     'circuits: while let [circuit, more @ ..] = rest {
         let c = number_at(kept, i);
-        add_origins(
-            alloc, written, insides, numbers, c, circuit, &mut held, &mut found,
-        )?;
+        add_origins(alloc, source, c, circuit, &mut held, &mut found)?;
         i += 1;
         rest = more;
     }
@@ -198,7 +197,12 @@ fn with_insides(
     ensures { IfOk result (λ x. plain_all x ≡ origins_by (plain_netlist written.now)
         (plain_netlist aligned.now) kept.now numbers.now (map plain_inside insides.items)) }
 {
-    let circuits = all_origins(alloc, written, &insides, numbers, kept, &aligned.circuits)?;
+    let source = Source {
+        written,
+        insides: &insides,
+        numbers,
+    };
+    let circuits = all_origins(alloc, &source, kept, &aligned.circuits)?;
     Ok(Origins { insides, circuits })
 }
 

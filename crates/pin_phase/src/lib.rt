@@ -1,4 +1,4 @@
-//! Pins and base names of the nets of each cell.
+//! Pins and base names of the nets of each cell: its ports, as the cells that place it need them.
 #![tactic(auto)]
 
 mod bases;

@@ -1,13 +1,15 @@
 -- The vertical edges of a closed line of points, summed: they balance, and their weights are the winding number.
-use Rattle.std.proofs.Common.{◌≡◌, ℤ, pos, negsuc, ◌+ℤ◌, ◌-ℤ◌, ◌<ℤ◌, int_lt, Bool, true, false, List, [], ◌∷◌, ◌++◌, refl, ap, arith, if◌then◌else◌}
+use Rattle.std.proofs.Common.{◌≡◌, ℤ, pos, negsuc, ◌+ℤ◌, ◌-ℤ◌, ◌<ℤ◌, int_lt, Bool, true, false, List, [], ◌∷◌, ◌++◌, ◌||◌, ◌∙◌, refl, ap, arith, if◌then◌else◌}
 use Rattle.std.proofs.lemmas.Int.{ints}
 use Rattle.std.specs.List.{All}
 use Rattle.geo_base.specs.declared.shapes.Point.{Point}
 use Rattle.geo_base.specs.declared.shapes.Square.{Square}
 use Rattle.std.proofs.lemmas.List.Elements.{All-append, All-nil, All-cons}
+use Rattle.geo_base.specs.declared.layer.Op.TheVariants.{Or}
+use Rattle.base_laws.proofs.Tests.{or_false}
 use Rattle.rect_sets.specs.declared.row.Edge.{Edge}
-use Rattle.rect_sets.specs.Edges.{first_of, second_of, sum_where, crosses, acts_on, weight, total, IsEdge, IsBalanced}
-use Rattle.poly_fill.specs.Fills.{turns, winding}
+use Rattle.rect_sets.specs.Edges.{first_of, second_of, sum_where, crosses, acts_on, weight, total, is_some, set_of, IsEdge, IsBalanced}
+use Rattle.poly_fill.specs.Fills.{turns, winding, in_boundary}
 use Rattle.geo_base.specs.Outlines.{last_from, IsClosed}
 use Rattle.poly_fill.specs.Edges.{edges_between, edges_from, edges_along}
 
@@ -88,6 +90,16 @@ pub balanced_along : (points : List Point) → IsClosed points → IsBalanced (e
 balanced_along [] closed = record { first = λ row. refl; second = λ row. refl }
 balanced_along (p ∷ points) closed = balanced_from p points closed
 
-pub weight_along : (points : List Point) (s : Square) → weight first_of (edges_along points) s ≡ winding points s
+weight_along : (points : List Point) (s : Square) → weight first_of (edges_along points) s ≡ winding points s
 weight_along [] s = refl
 weight_along (p ∷ points) s = weight_from p points s
+
+second_along : (points : List Point) (s : Square) → weight second_of (edges_along points) s ≡ pos 0
+second_along [] s = refl
+second_along (p ∷ points) s = second_from (acts_on s) p points
+
+-- so the edges give the squares that the line winds round
+pub set_along : (points : List Point) (s : Square) → set_of Or (edges_along points) s ≡ in_boundary points s
+set_along points s =
+    ap (λ z. is_some (weight first_of (edges_along points) s) || is_some z) (second_along points s)
+    ∙ or_false (is_some (weight first_of (edges_along points) s)) ∙ ap is_some (weight_along points s)

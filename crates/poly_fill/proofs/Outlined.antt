@@ -4,7 +4,7 @@ use Rattle.std.proofs.lemmas.Int.{ints, by_lt_z}
 use Rattle.std.specs.Int.{int_min, int_max}
 use Rattle.geo_base.specs.declared.shapes.Point.{Point}
 use Rattle.geo_base.specs.Rects.{is_between}
-use Rattle.rect_sets.specs.Edges.{differ}
+use Rattle.geo_base.specs.Layers.{differ}
 use Rattle.poly_fill.specs.Outlines.{UprightLaw, LevelLaw}
 
 -- what an edge adds, by whether it stands to the left and spans the row upwards or downwards

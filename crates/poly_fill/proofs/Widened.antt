@@ -1,6 +1,7 @@
 -- The rectangles of a path's segments, and the squares that they cover.
 use Rattle.std.proofs.Common.{◌≡◌, ℕ, ◌+◌, ◌<◌, ◌≤◌, ℤ, ◌+ℤ◌, ◌-ℤ◌, ◌≤ℤ◌, Bool, true, false, ◌||◌, List, [], ◌∷◌, ◌++◌, length, length-drop, get_or, drop, refl, sym, ap, ◌∙◌, arith, w64, if◌then◌else◌}
-use Rattle.base_laws.proofs.Tests.{or_false, or_assoc}
+use Rattle.base_laws.proofs.Tests.{not_both, or_false, or_assoc}
+use Rattle.std.proofs.lemmas.Bool.{false_from_ne_true}
 use Rattle.std.proofs.lemmas.Int.{ints}
 use Rattle.std.proofs.lemmas.Bool.Decides.{Decides-int_eq}
 use mir.Val.{to_z, of_z}
@@ -13,7 +14,8 @@ use Rattle.std.proofs.lemmas.List.Elements.{All-cons, All-head, All-tail}
 use Rattle.geo_base.specs.declared.shapes.Point.{Point}
 use Rattle.geo_base.specs.declared.shapes.Square.{Square}
 use Rattle.geo_base.specs.declared.shapes.Rect.{Rect}
-use Rattle.geo_base.specs.Rects.{has}
+use Rattle.geo_base.specs.Rects.{has, is_rect}
+use Rattle.geo_base.proofs.Meeting.{has_rect, rect_to}
 use Rattle.rect_sets.specs.Rects.{covers}
 use Rattle.poly_fill.specs.Fills.{low_of, high_of, segment, segments, same_point, distinct_behind, distinct}
 
@@ -39,11 +41,8 @@ upright_segment half begin end a b not = let f : int_eq a.y b.y ≡ false = is_f
     is_false false h = refl
 
 -- a rectangle without width or height has no square
-pub no_width : (r : Rect) (s : Square) → r.x2 ≤ℤ r.x1 → has r s ≡ false
-no_width r s h = grind (arith, ints)
-
-pub no_height : (r : Rect) (s : Square) → r.y2 ≤ℤ r.y1 → has r s ≡ false
-no_height r s h = grind (arith, ints)
+pub no_squares : (r : Rect) (s : Square) → is_rect r ≡ false → has r s ≡ false
+no_squares r s h = false_from_ne_true (has r s) (λ e. not_both (is_rect r) (rect_to r (has_rect r s e)) h)
 
 pub or_none : (a b : Bool) → b ≡ false → a ≡ (a || b)
 or_none true b h = refl

@@ -9,8 +9,8 @@ ghost use Rattle.geo_base.specs.declared.shapes.Square.{Square};
 
 use crate::outline::outlined;
 use crate::path::fill_box;
-use geo_base::Point;
-use rect_sets::{Edge, RectSet, Rule, sweep};
+use geo_base::{Op, Point};
+use rect_sets::{Edge, RectSet, sweep};
 use std::alloc::{AllocError, Global};
 
 // Adds the edge from a to b, where it is vertical.
@@ -67,6 +67,6 @@ pub fn fill_boundary(alloc: Global, points: &[Point]) -> Result<RectSet, AllocEr
         return Ok(set);
     }
     let edges = edges_along(alloc, points)?;
-    let set = sweep(alloc, edges, Rule::First)?;
+    let set = sweep(alloc, edges, Op::Or)?;
     Ok(set)
 }

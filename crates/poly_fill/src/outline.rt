@@ -1,23 +1,12 @@
 //! Boundaries that are outlines of rectangles.
 
 ghost use Rattle.std.specs.Prelude.{◌≡◌, [], ◌∷◌, IfSome};
-ghost use Rattle.geo_base.specs.Rects.{has, rect_between};
+ghost use Rattle.geo_base.specs.Rects.{has};
 ghost use Rattle.poly_fill.specs.Fills.{in_boundary};
 ghost use Rattle.poly_fill.specs.Outlines.{LevelLaw, UprightLaw};
 ghost use Rattle.geo_base.specs.declared.shapes.Square.{Square};
 
 use geo_base::{Point, Rect};
-
-fn between(p: Point, q: Point) -> Rect
-    ensures { result ≡ rect_between p q }
-{
-    Rect {
-        x1: p.x.min(q.x),
-        y1: p.y.min(q.y),
-        x2: p.x.max(q.x),
-        y2: p.y.max(q.y),
-    }
-}
 
 // The rectangle that the points go round, where two of their sides lie level.
 fn outline_of(a: Point, b: Point, c: Point, d: Point, e: Point) -> Option<Rect>
@@ -27,10 +16,10 @@ fn outline_of(a: Point, b: Point, c: Point, d: Point, e: Point) -> Option<Rect>
         return None;
     }
     if b.y == c.y && d.y == a.y {
-        return Some(between(a, c));
+        return Some(Rect::between(a, c));
     }
     if a.y == b.y && c.y == d.y {
-        return Some(between(b, d));
+        return Some(Rect::between(b, d));
     }
     None
 }

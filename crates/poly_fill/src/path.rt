@@ -67,7 +67,7 @@ fn push_rect(rects: &mut Vec<Rect>, r: Rect) -> Result<(), AllocError>
     ensures covers { OnOk result ((s : Square) → covers rects.new.items s
         ≡ (covers rects.old.items s || has r s)) }
 {
-    if r.x1 < r.x2 && r.y1 < r.y2 {
+    if r.is_rect() {
         rects.push(r)?;
     }
     Ok(())

@@ -20,7 +20,7 @@ use Rattle.geo_base.specs.declared.shapes.Rect.{Rect}
 use Rattle.geo_base.specs.declared.shapes.Square.{Square}
 use Rattle.rect_sets.specs.declared.opens.Open.{Open}
 use Rattle.rect_sets.specs.declared.row.Edge.{Edge}
-use Rattle.rect_sets.specs.declared.row.Rule.{Rule}
+use Rattle.geo_base.specs.declared.layer.Op.{Op}
 
 -- a test that no edge passes that begins above the row
 abbrev Misses : ℤ → (Edge → Bool) → Type 0
@@ -78,8 +78,8 @@ acts_ignores s y le e h = and_left (crosses s.y e) (int_le e.x s.x) (no_more s.y
 crosses_ignores : (row y : ℤ) → y ≤ℤ row → Ignores y (crosses row)
 crosses_ignores row y le e h = no_more row e (omega (arith, ints))
 
-no_square : (rule : Rule) (edges : List Edge) (s : Square) → weight first_of edges s ≡ pos 0 → weight second_of edges s ≡ pos 0 → set_of rule edges s ≡ false
-no_square rule edges s a b = same_holds rule _ _ _ _ a b ∙ no_weights rule
+no_square : (op : Op) (edges : List Edge) (s : Square) → weight first_of edges s ≡ pos 0 → weight second_of edges s ≡ pos 0 → set_of op edges s ≡ false
+no_square op edges s a b = same_holds op _ _ _ _ a b ∙ no_weights op
 
 -- the start
 
@@ -87,8 +87,8 @@ order_from : (edges : List Edge) (y : ℤ) → (0 < length edges → y ≡ (edge
 order_from [] y f h = tt
 order_from (e ∷ edges) y f h = subst (λ (q : ℤ). AreNext q leftmost (e ∷ edges)) (sym (f (omega arith))) h
 
-none_below : (rule : Rule) (edges : List Edge) (y : ℤ) (s : Square) → AreNext y leftmost edges → s.y <ℤ y → set_of rule edges s ≡ false
-none_below rule edges y s h lt = no_square rule edges s (none_later (acts_on s) first_of s.y y leftmost edges (acts_misses s) h lt) (none_later (acts_on s) second_of s.y y leftmost edges (acts_misses s) h lt)
+none_below : (op : Op) (edges : List Edge) (y : ℤ) (s : Square) → AreNext y leftmost edges → s.y <ℤ y → set_of op edges s ≡ false
+none_below op edges y s h lt = no_square op edges s (none_later (acts_on s) first_of s.y y leftmost edges (acts_misses s) h lt) (none_later (acts_on s) second_of s.y y leftmost edges (acts_misses s) h lt)
 
 zero_plus : (a : ℤ) → (pos 0 +ℤ a) ≡ a
 zero_plus a = omega (arith, ints)
@@ -99,20 +99,20 @@ plus_zero a b c h z = omega (arith, ints)
 corner : (set : Square → Bool) (r : Rect) → IsBlock set r → (row : ℤ) → r.y1 ≤ℤ row → row <ℤ r.y2 → set (record { x = r.x1; y = row }) ≡ true
 corner set r k row low high = let run = k.rows row low high in let some = run.some in run.inside r.x1 (omega (arith, ints)) some
 
-start_swept : (rule : Rule) (edges : List Edge) (y : ℤ) → AreNext y leftmost edges → Swept (set_of rule edges) y [] []
-start_swept rule edges y h = record {
-  row = record { from = pos 0; apart = tt; same = λ x. sym (none_below rule edges y (record { x = x; y = y -ℤ pos 1 }) h (omega (arith, ints))) };
+start_swept : (op : Op) (edges : List Edge) (y : ℤ) → AreNext y leftmost edges → Swept (set_of op edges) y [] []
+start_swept op edges y h = record {
+  row = record { from = pos 0; apart = tt; same = λ x. sym (none_below op edges y (record { x = x; y = y -ℤ pos 1 }) h (omega (arith, ints))) };
   each_open = λ o g. absurd g;
   each_closed = λ r g. absurd g;
-  all_closed = λ r k lt. let some = k.some in absurd (false≢true (sym (none_below rule edges y (record { x = r.x1; y = r.y1 }) h (omega (arith, ints))) ∙ corner (set_of rule edges) r k r.y1 (omega (arith, ints)) some));
-  covered = λ s e lt. absurd (false≢true (sym (none_below rule edges y s h lt) ∙ e));
+  all_closed = λ r k lt. let some = k.some in absurd (false≢true (sym (none_below op edges y (record { x = r.x1; y = r.y1 }) h (omega (arith, ints))) ∙ corner (set_of op edges) r k r.y1 (omega (arith, ints)) some));
+  covered = λ s e lt. absurd (false≢true (sym (none_below op edges y s h lt) ∙ e));
 }
 
-pub start : (rule : Rule) (edges : List Edge) (y : ℤ) → (0 < length edges → y ≡ (edge_at edges 0).y1) → InSweepOrder edges → SweepState rule edges y 0 [] [] []
-start rule edges y f h =
+pub start : (op : Op) (edges : List Edge) (y : ℤ) → (0 < length edges → y ≡ (edge_at edges 0).y1) → InSweepOrder edges → SweepState op edges y 0 [] [] []
+start op edges y f h =
     let next = order_from edges y f h in
     record {
-      swept = start_swept rule edges y next;
+      swept = start_swept op edges y next;
       ready = record { at_in = omega arith; order = tt; begun = tt; next = next };
       part = λ test field ignores. zero_plus (sum_where test field edges);
     }
@@ -122,8 +122,8 @@ start rule edges y f h =
 abbrev Parts : ℤ → List Edge → ℕ → List Edge → Type 0
 Parts y edges at active = (test : Edge → Bool) (field : Edge → ℤ) → Ignores y test → (sum_where test field active +ℤ sum_where test field (drop at edges)) ≡ sum_where test field edges
 
-pub parts : (rule : Rule) (edges : List Edge) (y : ℤ) (at at' : ℕ) (active merged : List Edge) (opens : List Open) (closed : List Rect) → SweepState rule edges y at active opens closed → Merged y active edges at at' merged → Parts y edges at' merged
-parts rule edges y at at' active merged opens closed h m test field ignores = m.sums test field ignores ∙ h.part test field ignores
+pub parts : (op : Op) (edges : List Edge) (y : ℤ) (at at' : ℕ) (active merged : List Edge) (opens : List Open) (closed : List Rect) → SweepState op edges y at active opens closed → Merged y active edges at at' merged → Parts y edges at' merged
+parts op edges y at at' active merged opens closed h m test field ignores = m.sums test field ignores ∙ h.part test field ignores
 
 later_first : (y end : ℤ) (edges : List Edge) (at : ℕ) (row : ℤ) → row <ℤ end → (at < length edges → end ≤ℤ (edge_at edges at).y1) → at < length edges → row <ℤ (edge_at edges at).y1
 later_first y end edges at row lt f l = let g = f l in omega (arith, ints)
@@ -143,9 +143,9 @@ balanced field edges y low at active p next later cross z =
     let full = full_total y field active cross in
     omega (arith, ints, all, none, full, z)
 
-pub is_row : (rule : Rule) (edges : List Edge) (y : ℤ) (at at' : ℕ) (active merged : List Edge) (opens : List Open) (closed : List Rect) → SweepState rule edges y at active opens closed → Merged y active edges at at' merged → IsBalanced edges → IsRow leftmost merged
-is_row rule edges y at at' active merged opens closed h m b =
-    let p : Parts y edges at' merged = parts rule edges y at at' active merged opens closed h m in
+pub is_row : (op : Op) (edges : List Edge) (y : ℤ) (at at' : ℕ) (active merged : List Edge) (opens : List Open) (closed : List Rect) → SweepState op edges y at active opens closed → Merged y active edges at at' merged → IsBalanced edges → IsRow leftmost merged
+is_row op edges y at at' active merged opens closed h m b =
+    let p : Parts y edges at' merged = parts op edges y at at' active merged opens closed h m in
     record {
       in_order = m.order;
       first_balanced = balanced first_of edges y m.low at' merged p m.next m.later m.crossing (b.first y);
@@ -169,15 +169,15 @@ weight_here field edges y end low x row at active p next cross is_end below abov
     let none = none_from (acts_on s) field row y low edges at (acts_misses s) next (later_first y end edges at row above is_end.later) in
     plus_zero _ _ _ all none ∙ acts_here field y end x row active cross is_end.ends below above
 
-pub is_strip : (rule : Rule) (edges : List Edge) (y end : ℤ) (at at' : ℕ) (active merged : List Edge) (opens : List Open) (closed : List Rect) (runs : List Span) → SweepState rule edges y at active opens closed → Merged y active edges at at' merged → IsEnd y merged edges at' end → HasRunsOf rule merged runs → IsStrip (set_of rule edges) y end runs
-is_strip rule edges y end at at' active merged opens closed runs h m is_end r =
-    let p : Parts y edges at' merged = parts rule edges y at at' active merged opens closed h m in
+pub is_strip : (op : Op) (edges : List Edge) (y end : ℤ) (at at' : ℕ) (active merged : List Edge) (opens : List Open) (closed : List Rect) (runs : List Span) → SweepState op edges y at active opens closed → Merged y active edges at at' merged → IsEnd y merged edges at' end → HasRunsOf op merged runs → IsStrip (set_of op edges) y end runs
+is_strip op edges y end at at' active merged opens closed runs h m is_end r =
+    let p : Parts y edges at' merged = parts op edges y at at' active merged opens closed h m in
     record {
       some = is_end.some;
       rows = λ row below above. record {
         from = r.from;
         apart = r.apart;
-        same = λ x. r.same x ∙ same_holds rule _ _ _ _
+        same = λ x. r.same x ∙ same_holds op _ _ _ _
             (sym (weight_here first_of edges y end m.low x row at' merged p m.next m.crossing is_end below above))
             (sym (weight_here second_of edges y end m.low x row at' merged p m.next m.crossing is_end below above));
       };
@@ -198,21 +198,21 @@ next_from y end low edges at h f = elim (cases_lt at (length edges)) [
     at_or_after : (end : ℤ) (e : Edge) → end ≤ℤ e.y1 → leftmost ≤ℤ e.x → Follows end leftmost e
     at_or_after end e le left = by_lt_z end e.y1 (λ lt. inl lt) (λ ge. inr (omega (arith, ints), left))
 
-pub next_state : (rule : Rule) (edges : List Edge) (y end : ℤ) (at at' : ℕ) (active merged : List Edge) (opens opens' : List Open) (closed closed' : List Rect) (runs : List Span) → SweepState rule edges y at active opens closed → Merged y active edges at at' merged → IsEnd y merged edges at' end → HasRunsOf rule merged runs → opens' ≡ nexts y opens runs → closed' ≡ closed ++ ended y opens runs → SweepState rule edges end at' merged opens' closed'
-next_state rule edges y end at at' active merged opens opens' closed closed' runs h m is_end r eo ec =
-    let strip = is_strip rule edges y end at at' active merged opens closed runs h m is_end r in
-    let swept = swept_more (set_of rule edges) y end opens closed runs h.swept strip in
+pub next_state : (op : Op) (edges : List Edge) (y end : ℤ) (at at' : ℕ) (active merged : List Edge) (opens opens' : List Open) (closed closed' : List Rect) (runs : List Span) → SweepState op edges y at active opens closed → Merged y active edges at at' merged → IsEnd y merged edges at' end → HasRunsOf op merged runs → opens' ≡ nexts y opens runs → closed' ≡ closed ++ ended y opens runs → SweepState op edges end at' merged opens' closed'
+next_state op edges y end at at' active merged opens opens' closed closed' runs h m is_end r eo ec =
+    let strip = is_strip op edges y end at at' active merged opens closed runs h m is_end r in
+    let swept = swept_more (set_of op edges) y end opens closed runs h.swept strip in
     let some = is_end.some in
     record {
-      swept = subst (λ (q : List Open). Swept (set_of rule edges) end q closed') (sym eo) (subst (λ (q : List Rect). Swept (set_of rule edges) end (nexts y opens runs) q) (sym ec) swept);
+      swept = subst (λ (q : List Open). Swept (set_of op edges) end q closed') (sym eo) (subst (λ (q : List Rect). Swept (set_of op edges) end (nexts y opens runs) q) (sym ec) swept);
       ready = record { at_in = m.at_in; order = m.order; begun = begun_by y end merged some m.crossing; next = next_from y end m.low edges at' m.next is_end.later };
-      part = λ test field ignores. parts rule edges y at at' active merged opens closed h m test field (λ e le. ignores e (omega (arith, ints)));
+      part = λ test field ignores. parts op edges y at at' active merged opens closed h m test field (λ e le. ignores e (omega (arith, ints)));
     }
 
 -- the end
 
-none_above : (rule : Rule) (edges : List Edge) (y : ℤ) (at : ℕ) (active : List Edge) (s : Square) → Parts y edges at active → active ≡ [] → drop at edges ≡ [] → y ≤ℤ s.y → set_of rule edges s ≡ false
-none_above rule edges y at active s p a d le = no_square rule edges s (zero first_of) (zero second_of)
+none_above : (op : Op) (edges : List Edge) (y : ℤ) (at : ℕ) (active : List Edge) (s : Square) → Parts y edges at active → active ≡ [] → drop at edges ≡ [] → y ≤ℤ s.y → set_of op edges s ≡ false
+none_above op edges y at active s p a d le = no_square op edges s (zero first_of) (zero second_of)
   where
     zero : (field : Edge → ℤ) → weight field edges s ≡ pos 0
     zero field =
@@ -290,7 +290,7 @@ finished set y opens closed h none =
           (λ le. absurd (false≢true (sym (none s (omega (arith, ints))) ∙ e))));
     }
 
-pub all_blocks : (rule : Rule) (edges : List Edge) (y : ℤ) (at at' : ℕ) (active merged : List Edge) (opens : List Open) (closed closed' : List Rect) → SweepState rule edges y at active opens closed → Merged y active edges at at' merged → length edges ≤ at' → merged ≡ [] → closed' ≡ closed ++ ended y opens [] → AreBlocks (set_of rule edges) closed'
-all_blocks rule edges y at at' active merged opens closed closed' h m le none e =
-    let p : Parts y edges at' merged = parts rule edges y at at' active merged opens closed h m in
-    subst (λ (q : List Rect). AreBlocks (set_of rule edges) q) (sym e) (finished (set_of rule edges) y opens closed h.swept (λ s low. none_above rule edges y at' merged s p none (drop_all at' edges le) low))
+pub all_blocks : (op : Op) (edges : List Edge) (y : ℤ) (at at' : ℕ) (active merged : List Edge) (opens : List Open) (closed closed' : List Rect) → SweepState op edges y at active opens closed → Merged y active edges at at' merged → length edges ≤ at' → merged ≡ [] → closed' ≡ closed ++ ended y opens [] → AreBlocks (set_of op edges) closed'
+all_blocks op edges y at at' active merged opens closed closed' h m le none e =
+    let p : Parts y edges at' merged = parts op edges y at at' active merged opens closed h m in
+    subst (λ (q : List Rect). AreBlocks (set_of op edges) q) (sym e) (finished (set_of op edges) y opens closed h.swept (λ s low. none_above op edges y at' merged s p none (drop_all at' edges le) low))

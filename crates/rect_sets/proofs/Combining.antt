@@ -1,19 +1,19 @@
 -- The edges of rectangles.
-use Rattle.std.proofs.Common.{◌≡◌, ℕ, ℤ, pos, suc, zero, ◌+ℤ◌, ◌-ℤ◌, ◌≤ℤ◌, ◌<ℤ◌, ◌<◌, ◌+◌, ◌*◌, List, [], ◌∷◌, ◌++◌, Bool, true, false, ◌&&◌, ◌||◌, length, take, refl, sym, ◌∙◌, ap, arith, get_or, append_assoc, int_le, if◌then◌else◌}
+use Rattle.std.proofs.Common.{◌≡◌, ℕ, ℤ, pos, suc, zero, ◌+ℤ◌, ◌-ℤ◌, ◌≤ℤ◌, ◌<ℤ◌, ◌<◌, ◌+◌, ◌*◌, List, [], ◌∷◌, ◌++◌, Bool, true, false, ◌&&◌, ◌||◌, length, take, refl, sym, ◌∙◌, ap, ap₂, arith, get_or, append_assoc, int_le, if◌then◌else◌}
 use Rattle.std.proofs.lemmas.Int.{ints, by_lt_z}
 use Rattle.std.proofs.lemmas.List.{take_more}
 use Rattle.std.specs.List.{All}
 use Rattle.geo_base.specs.Rects.{is_between, has, IsRect}
 use Rattle.rect_sets.specs.Rects.{covers}
-use Rattle.rect_sets.specs.Edges.{holds, is_some, first_of, second_of, sum_where, crosses, acts_on, weight, total, set_of, IsBalanced, IsEdge}
+use Rattle.rect_sets.specs.Edges.{is_some, first_of, second_of, sum_where, crosses, acts_on, weight, total, set_of, IsBalanced, IsEdge}
 use Rattle.rect_sets.specs.Sweeps.{AreBlocks}
-use Rattle.rect_sets.specs.Combined.{left_of, right_of, edges_of, combined, combined_set}
+use Rattle.geo_base.specs.Layers.{combined}
+use Rattle.rect_sets.specs.Combined.{left_of, right_of, edges_of, combined_set}
 use Rattle.rect_sets.proofs.Unique.{block_of}
 use Rattle.geo_base.specs.declared.shapes.Rect.{Rect}
 use Rattle.geo_base.specs.declared.shapes.Square.{Square}
 use Rattle.rect_sets.specs.declared.row.Edge.{Edge}
-use Rattle.rect_sets.specs.declared.row.Rule.{Rule}
-use Rattle.rect_sets.specs.declared.row.Rule.TheVariants.{First, And, Or, Not, Xor}
+use Rattle.geo_base.specs.declared.layer.Op.{Op}
 
 edges_push : (f g : ℤ) (xs : List Rect) (r : Rect) → edges_of f g (xs ++ r ∷ []) ≡ edges_of f g xs ++ (left_of f g r ∷ right_of f g r ∷ [])
 edges_push f g [] r = refl
@@ -89,15 +89,8 @@ count_covers (r ∷ rects) s = step (has r s) (count (pos 1) rects s) (covers re
     step true n c h e = more n h
     step false n c h e = let z : pos 0 +ℤ n ≡ n = omega (arith, ints) in ap is_some z ∙ e
 
-holds_combined : (rule : Rule) (x y : ℤ) (a b : Bool) → is_some x ≡ a → is_some y ≡ b → holds rule x y ≡ combined rule a b
-holds_combined First x y a b e f = e
-holds_combined And x y a b e f = cc
-holds_combined Or x y a b e f = cc
-holds_combined Not x y a b e f = cc
-holds_combined Xor x y a b e f = cc
-
-pub set_both : (rule : Rule) (a b : List Rect) (s : Square) → All IsRect a → All IsRect b → set_of rule (edges_of (pos 1) (pos 0) a ++ edges_of (pos 0) (pos 1) b) s ≡ combined_set rule a b s
-set_both rule a b s ha hb =
+pub set_both : (op : Op) (a b : List Rect) (s : Square) → All IsRect a → All IsRect b → set_of op (edges_of (pos 1) (pos 0) a ++ edges_of (pos 0) (pos 1) b) s ≡ combined_set op a b s
+set_both op a b s ha hb =
     let f1 = first_sum (pos 1) (pos 0) a s ha in
     let f2 = first_sum (pos 0) (pos 1) b s hb in
     let g1 = second_sum (pos 1) (pos 0) a s ha in
@@ -108,14 +101,14 @@ set_both rule a b s ha hb =
     let ga = sum_append (acts_on s) second_of (edges_of (pos 1) (pos 0) a) (edges_of (pos 0) (pos 1) b) in
     let first : weight first_of (edges_of (pos 1) (pos 0) a ++ edges_of (pos 0) (pos 1) b) s ≡ count (pos 1) a s = omega (arith, ints, f1, f2, za, zb, fa) in
     let second : weight second_of (edges_of (pos 1) (pos 0) a ++ edges_of (pos 0) (pos 1) b) s ≡ count (pos 1) b s = omega (arith, ints, g1, g2, za, zb, ga) in
-    holds_combined rule _ _ (covers a s) (covers b s) (ap is_some first ∙ count_covers a s) (ap is_some second ∙ count_covers b s)
+    ap₂ (combined op) (ap is_some first ∙ count_covers a s) (ap is_some second ∙ count_covers b s)
 
-pub blocks_both : (rule : Rule) (a b : List Rect) (rects : List Rect) → All IsRect a → All IsRect b → AreBlocks (set_of rule (edges_of (pos 1) (pos 0) a ++ edges_of (pos 0) (pos 1) b)) rects → AreBlocks (combined_set rule a b) rects
-blocks_both rule a b rects ha hb h =
-    let set : Square → Bool = set_of rule (edges_of (pos 1) (pos 0) a ++ edges_of (pos 0) (pos 1) b) in
+pub blocks_both : (op : Op) (a b : List Rect) (rects : List Rect) → All IsRect a → All IsRect b → AreBlocks (set_of op (edges_of (pos 1) (pos 0) a ++ edges_of (pos 0) (pos 1) b)) rects → AreBlocks (combined_set op a b) rects
+blocks_both op a b rects ha hb h =
+    let set : Square → Bool = set_of op (edges_of (pos 1) (pos 0) a ++ edges_of (pos 0) (pos 1) b) in
     record {
-      each = λ r. (λ l. block_of set (combined_set rule a b) r (λ s. set_both rule a b s ha hb) ((h.each r).0 l), λ k. (h.each r).1 (block_of (combined_set rule a b) set r (λ s. sym (set_both rule a b s ha hb)) k));
-      same = λ s. h.same s ∙ set_both rule a b s ha hb;
+      each = λ r. (λ l. block_of set (combined_set op a b) r (λ s. set_both op a b s ha hb) ((h.each r).0 l), λ k. (h.each r).1 (block_of (combined_set op a b) set r (λ s. sym (set_both op a b s ha hb)) k));
+      same = λ s. h.same s ∙ set_both op a b s ha hb;
     }
 
 -- conditions of the sweep

@@ -9,7 +9,8 @@ use Rattle.std.specs.Ordering.{int_eq}
 use Rattle.geo_base.specs.Rects.{is_between, has, IsRect}
 use Rattle.rect_sets.specs.Rects.{covers, IsRun, IsBlock, IsListed}
 use Rattle.rect_sets.specs.Sweeps.{AreBlocks}
-use Rattle.rect_sets.specs.Combined.{combined, combined_set}
+use Rattle.geo_base.specs.Layers.{combined}
+use Rattle.rect_sets.specs.Combined.{combined_set}
 use Rattle.rect_sets.specs.Divided.{place, low_end, high_end, begins_before, ends_after, low_at, high_at, low_part, high_part, lows, highs, touches, kept, cut_off}
 use Rattle.rect_sets.specs.Halves.{AreParted, low_half, high_half}
 use Rattle.rect_sets.proofs.Blocking.{covers_listed}
@@ -21,8 +22,8 @@ use Rattle.rect_sets.specs.declared.cuts.Axis.TheVariants.{X, Y}
 use Rattle.rect_sets.specs.declared.cuts.Cut.{Cut}
 use Rattle.geo_base.specs.declared.shapes.Rect.{Rect}
 use Rattle.geo_base.specs.declared.shapes.Square.{Square}
-use Rattle.rect_sets.specs.declared.row.Rule.{Rule}
-use Rattle.rect_sets.specs.declared.row.Rule.TheVariants.{First, And, Or, Not, Xor}
+use Rattle.geo_base.specs.declared.layer.Op.{Op}
+use Rattle.geo_base.specs.declared.layer.Op.TheVariants.{And, Or, Not, Xor}
 
 pub lt_false : (a b : ℤ) → b ≤ℤ a → int_lt a b ≡ false
 lt_false a b h = grind (arith, ints)
@@ -387,8 +388,7 @@ cut_rects c rest found h k = all_rects (rest ++ cut_off c found) (λ r l. elim (
   | inr b ↦ rect_in found r k (cut_from c found r b).0
 ])
 
-combined_and : (rule : Rule) (a b l : Bool) → combined rule (a && l) (b && l) ≡ (combined rule a b && l)
-combined_and First a b l = refl
+combined_and : (op : Op) (a b l : Bool) → combined op (a && l) (b && l) ≡ (combined op a b && l)
 combined_and And true true true = refl
 combined_and And true true false = refl
 combined_and And true false true = refl
@@ -412,14 +412,14 @@ blocks_same f g rects same h = record {
   same = λ s. h.same s ∙ same s;
 }
 
--- what the rule gives of the lower parts is the lower half of what it gives, and so of the upper
-pub low_blocks : (rule : Rule) (cut : Cut) (a b rects : List Rect) → AreBlocks (combined_set rule (lows cut a) (lows cut b)) rects → AreBlocks (low_half (combined_set rule a b) cut) rects
-low_blocks rule cut a b rects h =
-    blocks_same (combined_set rule (lows cut a) (lows cut b)) (low_half (combined_set rule a b) cut) rects (λ s. ap (λ p. combined rule p (covers (lows cut b) s)) (covers_lows cut a s) ∙ ap (λ p. combined rule (covers a s && int_lt (place cut.axis s) cut.at) p) (covers_lows cut b s) ∙ combined_and rule (covers a s) (covers b s) (int_lt (place cut.axis s) cut.at)) h
+-- what the operator gives of the lower parts is the lower half of what it gives, and so of the upper
+pub low_blocks : (op : Op) (cut : Cut) (a b rects : List Rect) → AreBlocks (combined_set op (lows cut a) (lows cut b)) rects → AreBlocks (low_half (combined_set op a b) cut) rects
+low_blocks op cut a b rects h =
+    blocks_same (combined_set op (lows cut a) (lows cut b)) (low_half (combined_set op a b) cut) rects (λ s. ap (λ p. combined op p (covers (lows cut b) s)) (covers_lows cut a s) ∙ ap (λ p. combined op (covers a s && int_lt (place cut.axis s) cut.at) p) (covers_lows cut b s) ∙ combined_and op (covers a s) (covers b s) (int_lt (place cut.axis s) cut.at)) h
 
-pub high_combined : (rule : Rule) (cut : Cut) (a b : List Rect) (s : Square) → combined_set rule (highs cut a) (highs cut b) s ≡ high_half (combined_set rule a b) cut s
-high_combined rule cut a b s =
-    ap (λ p. combined rule p (covers (highs cut b) s)) (covers_highs cut a s) ∙ ap (λ p. combined rule (covers a s && int_le cut.at (place cut.axis s)) p) (covers_highs cut b s) ∙ combined_and rule (covers a s) (covers b s) (int_le cut.at (place cut.axis s))
+pub high_combined : (op : Op) (cut : Cut) (a b : List Rect) (s : Square) → combined_set op (highs cut a) (highs cut b) s ≡ high_half (combined_set op a b) cut s
+high_combined op cut a b s =
+    ap (λ p. combined op p (covers (highs cut b) s)) (covers_highs cut a s) ∙ ap (λ p. combined op (covers a s && int_le cut.at (place cut.axis s)) p) (covers_highs cut b s) ∙ combined_and op (covers a s) (covers b s) (int_le cut.at (place cut.axis s))
 
 -- the loops
 

@@ -13,18 +13,10 @@ use Rattle.rect_sets.specs.EdgeCuts.{in_rows, edges_below, edges_above, edges_le
 use Rattle.rect_sets.specs.Sums.{AreSums}
 use Rattle.rect_sets.specs.declared.cuts.Axis.TheVariants.{Y}
 use Rattle.rect_sets.specs.declared.row.Edge.{Edge}
-use Rattle.rect_sets.specs.declared.row.Rule.{Rule}
-use Rattle.rect_sets.specs.declared.row.Rule.TheVariants.{First, And, Or, Not, Xor}
+use Rattle.geo_base.specs.declared.layer.Op.{Op}
 use Rattle.rect_sets.proofs.Combining.{sum_append}
 use Rattle.rect_sets.proofs.Dividing.{lt_false, le_false, low_between, high_between, and_one, less_than_least, most_less_than}
-use Rattle.rect_sets.proofs.RowRuns.{same_holds}
-
-holds_none : (rule : Rule) → holds rule (pos 0) (pos 0) ≡ false
-holds_none First = refl
-holds_none And = refl
-holds_none Or = refl
-holds_none Not = refl
-holds_none Xor = refl
+use Rattle.rect_sets.proofs.RowRuns.{same_holds, no_weights}
 
 tail_of : (P : Edge → Type 0) (e : Edge) (es : List Edge) → All P (e ∷ es) → All P es
 tail_of P e es h = λ k d lt. h (suc k) d (omega arith)
@@ -147,14 +139,14 @@ pub level : (y : ℤ) (es : List Edge) → All IsEdge es → IsBalanced es → A
 level y es h b = record {
   low_edges = below_edges y es h;
   low_balanced = record { first = λ row. below_total first_of y row es kept_first (b.first row); second = λ row. below_total second_of y row es kept_second (b.second row) };
-  low_set = λ rule s. by_lt_z s.y y
-      (λ lt. same_holds rule _ _ _ _ (below_sum (acts_on s) first_of y s.y (acting_test s) kept_first lt es) (below_sum (acts_on s) second_of y s.y (acting_test s) kept_second lt es) ∙ sym (and_one (set_of rule es s) (int_lt s.y y) (lt_to s.y y lt)))
-      (λ le. same_holds rule _ _ _ _ (below_none (acts_on s) first_of y s.y (acting_test s) le es) (below_none (acts_on s) second_of y s.y (acting_test s) le es) ∙ holds_none rule ∙ sym (and_right (set_of rule es s) (int_lt s.y y) (lt_false s.y y le)));
+  low_set = λ op s. by_lt_z s.y y
+      (λ lt. same_holds op _ _ _ _ (below_sum (acts_on s) first_of y s.y (acting_test s) kept_first lt es) (below_sum (acts_on s) second_of y s.y (acting_test s) kept_second lt es) ∙ sym (and_one (set_of op es s) (int_lt s.y y) (lt_to s.y y lt)))
+      (λ le. same_holds op _ _ _ _ (below_none (acts_on s) first_of y s.y (acting_test s) le es) (below_none (acts_on s) second_of y s.y (acting_test s) le es) ∙ no_weights op ∙ sym (and_right (set_of op es s) (int_lt s.y y) (lt_false s.y y le)));
   high_edges = above_edges y es h;
   high_balanced = record { first = λ row. above_total first_of y row es kept_first (b.first row); second = λ row. above_total second_of y row es kept_second (b.second row) };
-  high_set = λ rule s. by_lt_z s.y y
-      (λ lt. same_holds rule _ _ _ _ (above_none (acts_on s) first_of y s.y (acting_test s) lt es) (above_none (acts_on s) second_of y s.y (acting_test s) lt es) ∙ holds_none rule ∙ sym (and_right (set_of rule es s) (int_le y s.y) (le_false y s.y lt)))
-      (λ le. same_holds rule _ _ _ _ (above_sum (acts_on s) first_of y s.y (acting_test s) kept_first le es) (above_sum (acts_on s) second_of y s.y (acting_test s) kept_second le es) ∙ sym (and_one (set_of rule es s) (int_le y s.y) (le_to y s.y le)));
+  high_set = λ op s. by_lt_z s.y y
+      (λ lt. same_holds op _ _ _ _ (above_none (acts_on s) first_of y s.y (acting_test s) lt es) (above_none (acts_on s) second_of y s.y (acting_test s) lt es) ∙ no_weights op ∙ sym (and_right (set_of op es s) (int_le y s.y) (le_false y s.y lt)))
+      (λ le. same_holds op _ _ _ _ (above_sum (acts_on s) first_of y s.y (acting_test s) kept_first le es) (above_sum (acts_on s) second_of y s.y (acting_test s) kept_second le es) ∙ sym (and_one (set_of op es s) (int_le y s.y) (le_to y s.y le)));
 }
 
 -- upright lines
@@ -265,14 +257,14 @@ pub upright : (x : ℤ) (es left right : List Edge) → All IsEdge es → IsBala
 upright x es left right h b l r = record {
   low_edges = All-append IsEdge (edges_left x es) right (left_edges IsEdge x es h) r.sound;
   low_balanced = record { first = λ row. low_total first_of x row es right (r.first row) (b.first row); second = λ row. low_total second_of x row es right (r.second row) (b.second row) };
-  low_set = λ rule s. by_lt_z s.x x
-      (λ lt. same_holds rule _ _ _ _ (low_weight first_of x s es right r.line lt) (low_weight second_of x s es right r.line lt) ∙ sym (and_one (set_of rule es s) (int_lt s.x x) (lt_to s.x x lt)))
-      (λ le. same_holds rule _ _ _ _ (low_nothing first_of x s es right r.line (r.first s.y) (b.first s.y) le) (low_nothing second_of x s es right r.line (r.second s.y) (b.second s.y) le) ∙ holds_none rule ∙ sym (and_right (set_of rule es s) (int_lt s.x x) (lt_false s.x x le)));
+  low_set = λ op s. by_lt_z s.x x
+      (λ lt. same_holds op _ _ _ _ (low_weight first_of x s es right r.line lt) (low_weight second_of x s es right r.line lt) ∙ sym (and_one (set_of op es s) (int_lt s.x x) (lt_to s.x x lt)))
+      (λ le. same_holds op _ _ _ _ (low_nothing first_of x s es right r.line (r.first s.y) (b.first s.y) le) (low_nothing second_of x s es right r.line (r.second s.y) (b.second s.y) le) ∙ no_weights op ∙ sym (and_right (set_of op es s) (int_lt s.x x) (lt_false s.x x le)));
   high_edges = All-append IsEdge (edges_right x es) left (right_edges IsEdge x es h) l.sound;
   high_balanced = record { first = λ row. high_total first_of x row es left (l.first row) (b.first row); second = λ row. high_total second_of x row es left (l.second row) (b.second row) };
-  high_set = λ rule s. by_lt_z s.x x
-      (λ lt. same_holds rule _ _ _ _ (high_nothing first_of x s es left l.line lt) (high_nothing second_of x s es left l.line lt) ∙ holds_none rule ∙ sym (and_right (set_of rule es s) (int_le x s.x) (le_false x s.x lt)))
-      (λ le. same_holds rule _ _ _ _ (high_weight first_of x s es left l.line (l.first s.y) le) (high_weight second_of x s es left l.line (l.second s.y) le) ∙ sym (and_one (set_of rule es s) (int_le x s.x) (le_to x s.x le)));
+  high_set = λ op s. by_lt_z s.x x
+      (λ lt. same_holds op _ _ _ _ (high_nothing first_of x s es left l.line lt) (high_nothing second_of x s es left l.line lt) ∙ no_weights op ∙ sym (and_right (set_of op es s) (int_le x s.x) (le_false x s.x lt)))
+      (λ le. same_holds op _ _ _ _ (high_weight first_of x s es left l.line (l.first s.y) le) (high_weight second_of x s es left l.line (l.second s.y) le) ∙ sym (and_one (set_of op es s) (int_le x s.x) (le_to x s.x le)));
 }
 
 -- the loops

@@ -4,13 +4,13 @@ use Rattle.base_laws.proofs.Tests.{if_true, if_false}
 use Rattle.std.proofs.lemmas.Int.{ints}
 use Rattle.std.proofs.lemmas.Bool.{false≢true, and_cases, cases_Bool}
 use Rattle.std.specs.List.{All}
-use Rattle.geo_base.specs.Rects.{has, is_between, IsRect}
+use Rattle.geo_base.specs.Rects.{has, is_between, IsRect, overlap, meets}
 use Rattle.geo_base.specs.Near.{IsNearRect}
 use Rattle.geo_base.specs.declared.shapes.Rect.{Rect}
 use Rattle.geo_base.specs.declared.shapes.Square.{Square}
 use Rattle.rect_sets.specs.Rects.{covers, IsRun, IsBlock, IsBelow, AreAbove, IsOrdered, IsListed, IsCanonical}
 use Rattle.rect_sets.specs.Near.{IsNearSet}
-use Rattle.rect_sets.specs.Moves.{shift, shifted, overlap, meets, meeting}
+use Rattle.rect_sets.specs.Moves.{shift, shifted, meeting}
 use Rattle.rect_sets.proofs.Unique.{listed_get}
 use Rattle.rect_sets.proofs.Splitting.{inside_from}
 use Rattle.rect_sets.proofs.Dividing.{first_in, last_in, if_append, with_first}
@@ -130,7 +130,7 @@ near_rects rects h near k d lt = near_rect rects (get_or rects k d) near ((h.eac
 
 pub meeting_append : (w : Rect) (xs ys : List Rect) → meeting w (xs ++ ys) ≡ meeting w xs ++ meeting w ys
 meeting_append w [] ys = refl
-meeting_append w (r ∷ xs) ys = ap (λ (q : List Rect). if meets w r then r ∷ q else q) (meeting_append w xs ys) ∙ sym (if_append (meets w r) (r ∷ meeting w xs) (meeting w xs) (meeting w ys))
+meeting_append w (r ∷ xs) ys = ap (λ (q : List Rect). if meets r w then r ∷ q else q) (meeting_append w xs ys) ∙ sym (if_append (meets r w) (r ∷ meeting w xs) (meeting w xs) (meeting w ys))
 
 both_between : (a b c d x : ℤ) → overlap a b c d ≡ false → (is_between a x b && is_between c x d) ≡ false
 both_between a b c d x h = grind (arith, ints)
@@ -147,7 +147,7 @@ four_second true true false d e = refl
 four_second true false c d e = refl
 four_second false b c d e = refl
 
-misses : (w r : Rect) (s : Square) → meets w r ≡ false → (has r s && has w s) ≡ false
+misses : (w r : Rect) (s : Square) → meets r w ≡ false → (has r s && has w s) ≡ false
 misses w r s h = elim (and_cases (overlap r.x1 r.x2 w.x1 w.x2) (overlap r.y1 r.y2 w.y1 w.y2) h) [
   | inl e ↦ four_first (is_between r.x1 s.x r.x2) (is_between r.y1 s.y r.y2) (is_between w.x1 s.x w.x2) (is_between w.y1 s.y w.y2) (both_between r.x1 r.x2 w.x1 w.x2 s.x e)
   | inr e ↦ four_second (is_between r.x1 s.x r.x2) (is_between r.y1 s.y r.y2) (is_between w.x1 s.x w.x2) (is_between w.y1 s.y w.y2) (both_between r.y1 r.y2 w.y1 w.y2 s.y e)
@@ -157,9 +157,9 @@ pub meeting_covers : (w : Rect) (rects : List Rect) (s : Square) → (covers (me
 meeting_covers w [] s = refl
 meeting_covers w (r ∷ rects) s =
     let rest = meeting_covers w rects s in
-    elim (cases_Bool (meets w r)) [
-      | inl t ↦ ap (λ xs. covers xs s && has w s) (if_true (meets w r) (r ∷ meeting w rects) (meeting w rects) t) ∙ joined (has r s) (covers (meeting w rects) s) (covers rects s) (has w s) rest
-      | inr f ↦ ap (λ xs. covers xs s && has w s) (if_false (meets w r) (r ∷ meeting w rects) (meeting w rects) f) ∙ rest ∙ skipped (has r s) (covers rects s) (has w s) (misses w r s f)
+    elim (cases_Bool (meets r w)) [
+      | inl t ↦ ap (λ xs. covers xs s && has w s) (if_true (meets r w) (r ∷ meeting w rects) (meeting w rects) t) ∙ joined (has r s) (covers (meeting w rects) s) (covers rects s) (has w s) rest
+      | inr f ↦ ap (λ xs. covers xs s && has w s) (if_false (meets r w) (r ∷ meeting w rects) (meeting w rects) f) ∙ rest ∙ skipped (has r s) (covers rects s) (has w s) (misses w r s f)
     ]
   where
     joined : (h c d i : Bool) → (c && i) ≡ (d && i) → ((h || c) && i) ≡ ((h || d) && i)
@@ -173,7 +173,7 @@ meeting_covers w (r ∷ rects) s =
 
 pub meeting_rects : (w : Rect) (rects : List Rect) → All IsRect rects → All IsRect (meeting w rects)
 meeting_rects w [] h = h
-meeting_rects w (r ∷ rects) h = one (meets w r) r (meeting w rects) (h 0 r (omega arith)) (meeting_rects w rects (λ k d lt. h (suc k) d (omega arith)))
+meeting_rects w (r ∷ rects) h = one (meets r w) r (meeting w rects) (h 0 r (omega arith)) (meeting_rects w rects (λ k d lt. h (suc k) d (omega arith)))
   where
     one : (b : Bool) (r : Rect) (rest : List Rect) → IsRect r → All IsRect rest → All IsRect (if b then r ∷ rest else rest)
     one true r rest own h = with_first r rest own h

@@ -10,8 +10,8 @@ use Rattle.rect_sets.specs.Rows.{weight_up_to, weight_of_all, AreInOrder, EndUpT
 use Rattle.rect_sets.proofs.Growing.{meet, one_more, last_joined, beyond, changed}
 use Rattle.rect_sets.specs.declared.row.Span.{Span}
 use Rattle.rect_sets.specs.declared.row.Edge.{Edge}
-use Rattle.rect_sets.specs.declared.row.Rule.{Rule}
-use Rattle.rect_sets.specs.declared.row.Rule.TheVariants.{First, And, Or, Not, Xor}
+use Rattle.geo_base.specs.declared.layer.Op.{Op}
+use Rattle.geo_base.specs.declared.layer.Op.TheVariants.{And, Or, Not, Xor}
 
 -- the last of a list
 pub with_last : (xs : List Span) (k : ℕ) (d : Span) → k + 1 ≡ length xs → xs ≡ take k xs ++ get_or xs k d ∷ []
@@ -152,11 +152,11 @@ next_in_order low edges i d lt h =
     let cut : drop i edges ≡ get_or edges i d ∷ drop (i + 1) edges = drop_more edges i d lt in
     let g = subst (λ (ys : List Edge). AreInOrder low ys) cut h in (g.0, g.1)
 
-pub same_holds : (rule : Rule) (a b c d : ℤ) → a ≡ c → b ≡ d → holds rule a b ≡ holds rule c d
-same_holds rule a b c d e f = cc
+pub same_holds : (op : Op) (a b c d : ℤ) → a ≡ c → b ≡ d → holds op a b ≡ holds op c d
+same_holds op a b c d e f = cc
 
-pub row_more : (rule : Rule) (edges : List Edge) (i : ℕ) (d : Edge) (low first second first' second' : ℤ) (out new : List Span) → i < length edges → RowSoFar rule edges i low first second out → Grows out new low (get_or edges i d).x (holds rule first second) → IsSumOf first_of edges (i + 1) first' → IsSumOf second_of edges (i + 1) second' → RowSoFar rule edges (i + 1) (get_or edges i d).x first' second' new
-row_more rule edges i d low first second first' second' out new lt so grows sum1 sum2 =
+pub row_more : (op : Op) (edges : List Edge) (i : ℕ) (d : Edge) (low first second first' second' : ℤ) (out new : List Span) → i < length edges → RowSoFar op edges i low first second out → Grows out new low (get_or edges i d).x (holds op first second) → IsSumOf first_of edges (i + 1) first' → IsSumOf second_of edges (i + 1) second' → RowSoFar op edges (i + 1) (get_or edges i d).x first' second' new
+row_more op edges i d low first second first' second' out new lt so grows sum1 sum2 =
     let e : Edge = get_or edges i d in
     let next = next_in_order low edges i d lt so.rest in
     let le : low ≤ℤ (get_or edges i d).x = next.0 in
@@ -167,18 +167,17 @@ row_more rule edges i d low first second first' second' out new lt so grows sum1
       first_sum = sum1;
       second_sum = sum2;
       runs = grows.runs;
-      same = λ x. grows.same x ∙ ap (λ b. b || (holds rule first second && is_between low x (get_or edges i d).x)) (so.same x) ∙
-          stepped x low (get_or edges i d).x _ _ (holds rule first second) le
-          (λ lt'. same_holds rule _ _ _ _
+      same = λ x. grows.same x ∙ ap (λ b. b || (holds op first second && is_between low x (get_or edges i d).x)) (so.same x) ∙
+          stepped x low (get_or edges i d).x _ _ (holds op first second) le
+          (λ lt'. same_holds op _ _ _ _
           (ap (λ ys. weight_up_to first_of ys x) more ∙ up_left first_of (take i edges) (get_or edges i d) x lt')
           (ap (λ ys. weight_up_to second_of ys x) more ∙ up_left second_of (take i edges) (get_or edges i d) x lt'))
-          (λ le'. same_holds rule _ _ _ _
+          (λ le'. same_holds op _ _ _ _
           (up_all first_of (take i edges) low x so.done le' ∙ sym so.first_sum.is)
           (up_all second_of (take i edges) low x so.done le' ∙ sym so.second_sum.is));
     }
 
-pub no_weights : (rule : Rule) → holds rule (pos 0) (pos 0) ≡ false
-no_weights First = refl
+pub no_weights : (op : Op) → holds op (pos 0) (pos 0) ≡ false
 no_weights And = refl
 no_weights Or = refl
 no_weights Not = refl
@@ -194,23 +193,23 @@ and_false false c e = refl
 zero_sum : (field : Edge → ℤ) (edges : List Edge) → IsSumOf field edges 0 (pos 0)
 zero_sum field edges = record { is = refl; low = omega (arith, ints); high = omega (arith, ints) }
 
-pub row_none : (rule : Rule) (edges : List Edge) (low : ℤ) → AreInOrder low edges → RowSoFar rule edges 0 low (pos 0) (pos 0) []
-row_none rule edges low h = record {
+pub row_none : (op : Op) (edges : List Edge) (low : ℤ) → AreInOrder low edges → RowSoFar op edges 0 low (pos 0) (pos 0) []
+row_none op edges low h = record {
   rest = h;
   done = tt;
   first_sum = zero_sum first_of edges;
   second_sum = zero_sum second_of edges;
   runs = record { from = pos 0; apart = tt; ends = tt };
-  same = λ x. and_false (int_lt x low) _ (no_weights rule);
+  same = λ x. and_false (int_lt x low) _ (no_weights op);
 }
 
-pub row_all : (rule : Rule) (edges : List Edge) (n : ℕ) (low first second : ℤ) (out : List Span) → length edges ≤ n → weight_of_all first_of edges ≡ pos 0 → weight_of_all second_of edges ≡ pos 0 → RowSoFar rule edges n low first second out → HasRunsOf rule edges out
-row_all rule edges n low first second out le z1 z2 so =
+pub row_all : (op : Op) (edges : List Edge) (n : ℕ) (low first second : ℤ) (out : List Span) → length edges ≤ n → weight_of_all first_of edges ≡ pos 0 → weight_of_all second_of edges ≡ pos 0 → RowSoFar op edges n low first second out → HasRunsOf op edges out
+row_all op edges n low first second out le z1 z2 so =
     let all : take n edges ≡ edges = take_all n edges le in
     let done : AreUpTo low edges = subst (λ (ys : List Edge). AreUpTo low ys) all so.done in
     record {
       from = so.runs.from;
       apart = so.runs.apart;
-      same = λ x. so.same x ∙ ap (λ ys. int_lt x low && holds rule (weight_up_to first_of ys x) (weight_up_to second_of ys x)) all ∙
-          at_end x low _ (λ le'. same_holds rule _ _ _ _ (up_all first_of edges low x done le' ∙ z1) (up_all second_of edges low x done le' ∙ z2) ∙ no_weights rule);
+      same = λ x. so.same x ∙ ap (λ ys. int_lt x low && holds op (weight_up_to first_of ys x) (weight_up_to second_of ys x)) all ∙
+          at_end x low _ (λ le'. same_holds op _ _ _ _ (up_all first_of edges low x done le' ∙ z1) (up_all second_of edges low x done le' ∙ z2) ∙ no_weights op);
     }

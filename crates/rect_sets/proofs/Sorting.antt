@@ -16,7 +16,7 @@ use Rattle.rect_sets.proofs.Unique.{block_of}
 use Rattle.geo_base.specs.declared.shapes.Rect.{Rect}
 use Rattle.geo_base.specs.declared.shapes.Square.{Square}
 use Rattle.rect_sets.specs.declared.row.Edge.{Edge}
-use Rattle.rect_sets.specs.declared.row.Rule.{Rule}
+use Rattle.geo_base.specs.declared.layer.Op.{Op}
 
 pub up_part : ℤ → ℕ
 up_part (pos n) = n
@@ -57,11 +57,11 @@ balanced_permuted xs ys p h = record {
   second = λ row. sum_permuted (crosses row) second_of xs ys p ∙ h.second row;
 }
 
-pub blocks_permuted : (rule : Rule) (xs ys : List Edge) (rects : List Rect) → IsPermutation xs ys → AreBlocks (set_of rule ys) rects → AreBlocks (set_of rule xs) rects
-blocks_permuted rule xs ys rects p h =
-    let same : (s : Square) → set_of rule ys s ≡ set_of rule xs s = λ (s : Square). same_holds rule _ _ _ _ (sum_permuted (acts_on s) first_of xs ys p) (sum_permuted (acts_on s) second_of xs ys p) in
+pub blocks_permuted : (op : Op) (xs ys : List Edge) (rects : List Rect) → IsPermutation xs ys → AreBlocks (set_of op ys) rects → AreBlocks (set_of op xs) rects
+blocks_permuted op xs ys rects p h =
+    let same : (s : Square) → set_of op ys s ≡ set_of op xs s = λ (s : Square). same_holds op _ _ _ _ (sum_permuted (acts_on s) first_of xs ys p) (sum_permuted (acts_on s) second_of xs ys p) in
     record {
-      each = λ r. (λ l. block_of (set_of rule ys) (set_of rule xs) r same ((h.each r).0 l), λ k. (h.each r).1 (block_of (set_of rule xs) (set_of rule ys) r (λ s. sym (same s)) k));
+      each = λ r. (λ l. block_of (set_of op ys) (set_of op xs) r same ((h.each r).0 l), λ k. (h.each r).1 (block_of (set_of op xs) (set_of op ys) r (λ s. sym (same s)) k));
       same = λ s. h.same s ∙ same s;
     }
 

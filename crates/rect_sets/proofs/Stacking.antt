@@ -14,7 +14,7 @@ use Rattle.rect_sets.specs.Halves.{low_half, high_half}
 use Rattle.rect_sets.specs.Stripes.{AreRising, cut_of, line_at, stripe, within, beyond, done_of, rest_of, AreSorted, AreJoined, IsSwept}
 use Rattle.rect_sets.specs.declared.cuts.Axis.{Axis}
 use Rattle.rect_sets.specs.declared.cuts.Cut.{Cut}
-use Rattle.rect_sets.specs.declared.row.Rule.{Rule}
+use Rattle.geo_base.specs.declared.layer.Op.{Op}
 use Rattle.rect_sets.proofs.Unique.{all_rects}
 use Rattle.rect_sets.proofs.Dividing.{blocks_same, low_blocks, high_combined, halves, block_rects, kept_append, cut_append, clear_below, rect_in, cut_from}
 
@@ -32,16 +32,16 @@ within_same (suc i) axis [] f g same s = same s
 within_same zero axis (a ∷ at) f g same s = low_same (cut_of axis a) f g same s
 within_same (suc i) axis (a ∷ at) f g same s = within_same i axis at (high_half f (cut_of axis a)) (high_half g (cut_of axis a)) (high_same (cut_of axis a) f g same) s
 
--- what the rule gives of a stripe's lists is the stripe of what it gives
-pub stripe_blocks : (i : ℕ) (axis : Axis) (at : List ℤ) (rule : Rule) (a b rects : List Rect) → i ≤ length at → AreBlocks (combined_set rule (stripe i axis at a) (stripe i axis at b)) rects → AreBlocks (within i axis at (combined_set rule a b)) rects
-stripe_blocks zero axis [] rule a b rects le h = h
-stripe_blocks (suc i) axis [] rule a b rects le h = absurd (omega arith)
-stripe_blocks zero axis (c ∷ at) rule a b rects le h = low_blocks rule (cut_of axis c) a b rects h
-stripe_blocks (suc i) axis (c ∷ at) rule a b rects le h =
+-- what the operator gives of a stripe's lists is the stripe of what it gives
+pub stripe_blocks : (i : ℕ) (axis : Axis) (at : List ℤ) (op : Op) (a b rects : List Rect) → i ≤ length at → AreBlocks (combined_set op (stripe i axis at a) (stripe i axis at b)) rects → AreBlocks (within i axis at (combined_set op a b)) rects
+stripe_blocks zero axis [] op a b rects le h = h
+stripe_blocks (suc i) axis [] op a b rects le h = absurd (omega arith)
+stripe_blocks zero axis (c ∷ at) op a b rects le h = low_blocks op (cut_of axis c) a b rects h
+stripe_blocks (suc i) axis (c ∷ at) op a b rects le h =
     let cut = cut_of axis c in
-    blocks_same (within i axis at (combined_set rule (highs cut a) (highs cut b))) (within i axis at (high_half (combined_set rule a b) cut)) rects
-    (within_same i axis at (combined_set rule (highs cut a) (highs cut b)) (high_half (combined_set rule a b) cut) (high_combined rule cut a b))
-    (stripe_blocks i axis at rule (highs cut a) (highs cut b) rects (omega arith) h)
+    blocks_same (within i axis at (combined_set op (highs cut a) (highs cut b))) (within i axis at (high_half (combined_set op a b) cut)) rects
+    (within_same i axis at (combined_set op (highs cut a) (highs cut b)) (high_half (combined_set op a b) cut) (high_combined op cut a b))
+    (stripe_blocks i axis at op (highs cut a) (highs cut b) rects (omega arith) h)
 
 -- a stripe and those above it are the two halves at the line between
 

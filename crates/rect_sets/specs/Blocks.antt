@@ -8,7 +8,7 @@ use Rattle.rect_sets.specs.Sweeps.{Swept}
 use Rattle.geo_base.specs.declared.shapes.Rect.{Rect}
 use Rattle.rect_sets.specs.declared.opens.Open.{Open}
 use Rattle.rect_sets.specs.declared.row.Edge.{Edge}
-use Rattle.rect_sets.specs.declared.row.Rule.{Rule}
+use Rattle.geo_base.specs.declared.layer.Op.{Op}
 
 -- by y1, then x
 abbrev pub InSweepOrder : List Edge → Type 0
@@ -16,9 +16,9 @@ InSweepOrder [] = Unit {0}
 InSweepOrder (e ∷ edges) = AreNext e.y1 leftmost (e ∷ edges)
 
 -- below y all is swept, and the active edges and those to come are all that count from there on
-pub record SweepState (rule : Rule) (edges : List Edge) (y : ℤ) (at : ℕ) (active : List Edge)
+pub record SweepState (op : Op) (edges : List Edge) (y : ℤ) (at : ℕ) (active : List Edge)
     (opens : List Open) (closed : List Rect) : Type 0 where
-  pub swept : Swept (set_of rule edges) y opens closed
+  pub swept : Swept (set_of op edges) y opens closed
   pub ready : IsReady y active edges at
   pub part : (test : Edge → Bool) (field : Edge → ℤ) → Ignores y test
       → (sum_where test field active +ℤ sum_where test field (drop at edges))

@@ -1,12 +1,11 @@
 -- Booleans of sets.
-use Rattle.std.specs.Prelude.{ℤ, pos, ◌-ℤ◌, ◌≤ℤ◌, Bool, ◌&&◌, ◌||◌, not, List, [], ◌∷◌}
+use Rattle.std.specs.Prelude.{ℤ, pos, ◌-ℤ◌, ◌≤ℤ◌, Bool, List, [], ◌∷◌}
 use Rattle.rect_sets.specs.Rects.{covers}
-use Rattle.rect_sets.specs.Edges.{differ}
 use Rattle.geo_base.specs.declared.shapes.Rect.{Rect}
 use Rattle.geo_base.specs.declared.shapes.Square.{Square}
 use Rattle.rect_sets.specs.declared.row.Edge.{Edge}
-use Rattle.rect_sets.specs.declared.row.Rule.{Rule}
-use Rattle.rect_sets.specs.declared.row.Rule.TheVariants.{First, And, Or, Not, Xor}
+use Rattle.geo_base.specs.declared.layer.Op.{Op}
+use Rattle.geo_base.specs.Layers.{combined}
 
 -- 0 or 1
 pub record IsWeight (w : ℤ) : Type 0 where
@@ -33,14 +32,6 @@ edges_of first second [] = []
 edges_of first second (r ∷ rects) =
     left_of first second r ∷ right_of first second r ∷ edges_of first second rects
 
--- what a rule says of one square, given whether each of two sets has it
-abbrev pub combined : Rule → Bool → Bool → Bool
-combined First a b = a
-combined And a b = a && b
-combined Or a b = a || b
-combined Not a b = a && not b
-combined Xor a b = differ a b
-
--- the set of the squares where the rule holds of two unions of rectangles
-abbrev pub combined_set : Rule → List Rect → List Rect → Square → Bool
-combined_set rule a b s = combined rule (covers a s) (covers b s)
+-- the set of the squares where the operator holds of two unions of rectangles
+abbrev pub combined_set : Op → List Rect → List Rect → Square → Bool
+combined_set op a b s = combined op (covers a s) (covers b s)

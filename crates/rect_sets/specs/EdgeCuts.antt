@@ -7,7 +7,7 @@ use Rattle.rect_sets.specs.Halves.{low_half, high_half}
 use Rattle.rect_sets.specs.declared.cuts.Axis.TheVariants.{X}
 use Rattle.rect_sets.specs.declared.cuts.Cut.{Cut}
 use Rattle.rect_sets.specs.declared.row.Edge.{Edge}
-use Rattle.rect_sets.specs.declared.row.Rule.{Rule}
+use Rattle.geo_base.specs.declared.layer.Op.{Op}
 
 -- an edge in other rows
 abbrev pub in_rows : Edge → ℤ → ℤ → Edge
@@ -44,7 +44,7 @@ upright_at x = record { axis = X; at = x }
 pub record AreSides (cut : Cut) (edges low high : List Edge) : Type 0 where
   pub low_edges : All IsEdge low
   pub low_balanced : IsBalanced low
-  pub low_set : (rule : Rule) (s : Square) → set_of rule low s ≡ low_half (set_of rule edges) cut s
+  pub low_set : (op : Op) (s : Square) → set_of op low s ≡ low_half (set_of op edges) cut s
   pub high_edges : All IsEdge high
   pub high_balanced : IsBalanced high
-  pub high_set : (rule : Rule) (s : Square) → set_of rule high s ≡ high_half (set_of rule edges) cut s
+  pub high_set : (op : Op) (s : Square) → set_of op high s ≡ high_half (set_of op edges) cut s

@@ -1,11 +1,11 @@
 -- Sets of unit squares that weighted upright edges give.
-use Rattle.std.specs.Prelude.{◌≡◌, ℤ, pos, ◌+ℤ◌, ◌<ℤ◌, int_le, int_lt, Bool, true, false, not, ◌&&◌}
-use Rattle.std.specs.Prelude.{◌||◌, List, [], ◌∷◌, if◌then◌else◌}
+use Rattle.std.specs.Prelude.{◌≡◌, ℤ, pos, ◌+ℤ◌, ◌<ℤ◌, int_le, int_lt, Bool, ◌&&◌, ◌||◌}
+use Rattle.std.specs.Prelude.{List, [], ◌∷◌, if◌then◌else◌}
 use Rattle.geo_base.specs.Rects.{is_between}
 use Rattle.geo_base.specs.declared.shapes.Square.{Square}
 use Rattle.rect_sets.specs.declared.row.Edge.{Edge}
-use Rattle.rect_sets.specs.declared.row.Rule.{Rule}
-use Rattle.rect_sets.specs.declared.row.Rule.TheVariants.{First, And, Or, Not, Xor}
+use Rattle.geo_base.specs.declared.layer.Op.{Op}
+use Rattle.geo_base.specs.Layers.{combined}
 
 -- the two weights of an edge
 abbrev pub first_of : Edge → ℤ
@@ -39,22 +39,13 @@ total field edges row = sum_where (crosses row) field edges
 abbrev pub is_some : ℤ → Bool
 is_some z = int_lt z (pos 0) || int_lt (pos 0) z
 
--- exactly one of two
-abbrev pub differ : Bool → Bool → Bool
-differ true b = not b
-differ false b = b
+-- whether the operator holds of two weights: it asks of each only whether it isn't 0
+abbrev pub holds : Op → ℤ → ℤ → Bool
+holds op a b = combined op (is_some a) (is_some b)
 
--- whether the rule holds of two weights: it asks of each only whether it isn't 0
-abbrev pub holds : Rule → ℤ → ℤ → Bool
-holds First a b = is_some a
-holds And a b = is_some a && is_some b
-holds Or a b = is_some a || is_some b
-holds Not a b = is_some a && not (is_some b)
-holds Xor a b = differ (is_some a) (is_some b)
-
--- the set that the edges and the rule give
-abbrev pub set_of : Rule → List Edge → Square → Bool
-set_of rule edges s = holds rule (weight first_of edges s) (weight second_of edges s)
+-- the set that the edges and the operator give
+abbrev pub set_of : Op → List Edge → Square → Bool
+set_of op edges s = holds op (weight first_of edges s) (weight second_of edges s)
 
 -- an edge has one row or more
 pub record IsEdge (e : Edge) : Type 0 where

@@ -1,5 +1,6 @@
 -- Rectangles that are shifted, and those that meet a window.
 use Rattle.std.specs.Prelude.{ℤ, ◌+ℤ◌, int_lt, Bool, ◌&&◌, List, [], ◌∷◌, if◌then◌else◌}
+use Rattle.geo_base.specs.Rects.{meets}
 use Rattle.geo_base.specs.declared.shapes.Rect.{Rect}
 
 -- a rectangle after a shift
@@ -11,15 +12,7 @@ abbrev pub shifted : ℤ → ℤ → List Rect → List Rect
 shifted dx dy [] = []
 shifted dx dy (r ∷ rects) = shift dx dy r ∷ shifted dx dy rects
 
--- whether two ranges of numbers that aren't empty have one in common
-abbrev pub overlap : ℤ → ℤ → ℤ → ℤ → Bool
-overlap a b c d = int_lt a d && int_lt c b
-
--- whether two rectangles share a square
-abbrev pub meets : Rect → Rect → Bool
-meets w r = overlap r.x1 r.x2 w.x1 w.x2 && overlap r.y1 r.y2 w.y1 w.y2
-
 -- those that meet the window
 abbrev pub meeting : Rect → List Rect → List Rect
 meeting w [] = []
-meeting w (r ∷ rects) = if meets w r then r ∷ meeting w rects else meeting w rects
+meeting w (r ∷ rects) = if meets r w then r ∷ meeting w rects else meeting w rects

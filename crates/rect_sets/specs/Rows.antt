@@ -6,7 +6,7 @@ use Rattle.rect_sets.specs.Edges.{holds, first_of, second_of}
 use Rattle.rect_sets.specs.Spans.{covers, AreApart}
 use Rattle.rect_sets.specs.declared.row.Span.{Span}
 use Rattle.rect_sets.specs.declared.row.Edge.{Edge}
-use Rattle.rect_sets.specs.declared.row.Rule.{Rule}
+use Rattle.geo_base.specs.declared.layer.Op.{Op}
 
 -- the sum of the weights up to a number, whatever the rows of the edges
 abbrev pub weight_up_to : (Edge → ℤ) → List Edge → ℤ → ℤ
@@ -46,11 +46,11 @@ pub record Grows (old new : List Span) (from to : ℤ) (inside : Bool) : Type 0 
   pub same : (x : ℤ) → covers new x ≡ (covers old x || (inside && is_between from x to))
   pub runs : AreRunsUpTo to new
 
--- exactly the longest runs of the numbers where the rule holds
-pub record HasRunsOf (rule : Rule) (edges : List Edge) (spans : List Span) : Type 0 where
+-- exactly the longest runs of the numbers where the operator holds
+pub record HasRunsOf (op : Op) (edges : List Edge) (spans : List Span) : Type 0 where
   pub from : ℤ
   pub apart : AreApart from spans
-  pub same : (x : ℤ) → covers spans x ≡ holds rule (weight_up_to first_of edges x)
+  pub same : (x : ℤ) → covers spans x ≡ holds op (weight_up_to first_of edges x)
       (weight_up_to second_of edges x)
 
 -- the sum of the first weights, which have 32 bits each; 128 bits hold it, as a list has fewer than
@@ -66,7 +66,7 @@ AreUpTo low [] = Unit {0}
 AreUpTo low (e ∷ edges) = (e.x ≤ℤ low) × AreUpTo low edges
 
 -- the runs up to where the sums of the seen edges reach
-pub record RowSoFar (rule : Rule) (edges : List Edge) (seen : ℕ) (low first second : ℤ)
+pub record RowSoFar (op : Op) (edges : List Edge) (seen : ℕ) (low first second : ℤ)
     (out : List Span) : Type 0 where
   pub rest : AreInOrder low (drop seen edges)
   pub done : AreUpTo low (take seen edges)
@@ -74,5 +74,5 @@ pub record RowSoFar (rule : Rule) (edges : List Edge) (seen : ℕ) (low first se
   pub second_sum : IsSumOf second_of edges seen second
   pub runs : AreRunsUpTo low out
   pub same : (x : ℤ) → covers out x
-      ≡ (int_lt x low && holds rule (weight_up_to first_of (take seen edges) x)
+      ≡ (int_lt x low && holds op (weight_up_to first_of (take seen edges) x)
       (weight_up_to second_of (take seen edges) x))

@@ -3,7 +3,7 @@
 ghost use Rattle.std.specs.Prelude.{◌≡◌, pos, ◌++◌, IfOk, OnOk};
 ghost use Rattle.rect_sets.specs.Combined.{IsWeight, left_of, right_of, edges_of};
 
-use crate::row::{Edge, Rule};
+use crate::row::Edge;
 use geo_base::Rect;
 use std::alloc::{AllocError, Global};
 

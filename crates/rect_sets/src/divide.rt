@@ -13,8 +13,7 @@ ghost use Rattle.rect_sets.specs.Stripes.{AreFirst, AreJoined, AreRising};
 use crate::cuts::{Cut, Lines, lines_of, share};
 use crate::halves::combine;
 use crate::parts::{sort_out, split};
-use crate::row::Rule;
-use geo_base::Rect;
+use geo_base::{Op, Rect};
 use std::alloc::{AllocError, Global};
 
 // A list of no rectangles for each stripe, with room for so many.
@@ -108,7 +107,7 @@ fn swept(
 {
     let mut all = Vec::new(alloc);
     sort_out(found, cut, &mut all, &mut rest)?;
-    let joined = combine(alloc, &rest, &[], Rule::First)?;
+    let joined = combine(alloc, &rest, &[], Op::Or)?;
     all.extend_from_slice(&joined)?;
     Ok(all)
 }
@@ -170,19 +169,19 @@ fn combine_stripes(
     alloc: Global,
     a: &[Rect],
     b: &[Rect],
-    rule: Rule,
+    op: Op,
     spare: usize,
     depth: u32,
 ) -> Result<Vec<Rect>, AllocError>
     requires a { All IsRect a.now }
     requires b { All IsRect b.now }
-    ensures { IfOk result (λ r. AreBlocks (combined_set rule a.now b.now) r.items) }
+    ensures { IfOk result (λ r. AreBlocks (combined_set op a.now b.now) r.items) }
 {
     if depth == 0 {
-        return combine(alloc, a, b, rule);
+        return combine(alloc, a, b, op);
     }
     let Some(mut parts) = parts_of(alloc, a, b, spare)? else {
-        return combine(alloc, a, b, rule);
+        return combine(alloc, a, b, op);
     };
     let mut done = Vec::new(alloc);
     let mut rest = Vec::new(alloc);
@@ -191,7 +190,7 @@ fn combine_stripes(
         i -= 1;
         let count = parts.a[i].len().saturating_add(parts.b[i].len());
         let spare = share(parts.spare, count, parts.count);
-        let found = combine_stripes(alloc, &parts.a[i], &parts.b[i], rule, spare, depth - 1)?;
+        let found = combine_stripes(alloc, &parts.a[i], &parts.b[i], op, spare, depth - 1)?;
         parts.a.truncate(i);
         parts.b.truncate(i);
         rest = join_stripe(alloc, &found, &parts.lines, i, rest, &mut done)?;
@@ -205,13 +204,13 @@ pub fn combine_parts(
     alloc: Global,
     a: &[Rect],
     b: &[Rect],
-    rule: Rule,
+    op: Op,
     depth: u32,
 ) -> Result<Vec<Rect>, AllocError>
     requires a { All IsRect a.now }
     requires b { All IsRect b.now }
-    ensures { IfOk result (λ r. AreBlocks (combined_set rule a.now b.now) r.items) }
+    ensures { IfOk result (λ r. AreBlocks (combined_set op a.now b.now) r.items) }
 {
     let spare = a.len().saturating_add(b.len()).saturating_mul(2);
-    combine_stripes(alloc, a, b, rule, spare, depth)
+    combine_stripes(alloc, a, b, op, spare, depth)
 }

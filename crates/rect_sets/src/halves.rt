@@ -10,16 +10,16 @@ ghost use Rattle.rect_sets.specs.Divided.{kept, cut_off};
 ghost use Rattle.rect_sets.specs.Edges.{set_of, IsEdge, IsBalanced};
 ghost use Rattle.rect_sets.specs.Rects.{covers};
 ghost use Rattle.rect_sets.specs.Sweeps.{AreBlocks};
-ghost use Rattle.rect_sets.specs.declared.row.Rule.TheVariants.{First};
+ghost use Rattle.geo_base.specs.declared.layer.Op.TheVariants.{Or};
 
 use crate::booleans::edges_of;
 use crate::cuts::{Axis, Cut};
 use crate::edge_cuts::{Sides, Ways, line_of, sides_of};
 use crate::levels::join_level;
 use crate::parts::sort_out;
-use crate::row::{Edge, Rule};
+use crate::row::Edge;
 use crate::strips::blocks;
-use geo_base::Rect;
+use geo_base::{Op, Rect};
 use std::alloc::{AllocError, Global};
 
 // No part is cut more often than this.
@@ -56,7 +56,7 @@ fn touching(alloc: Global, mut high: Vec<Rect>, low: &[Rect]) -> Result<Vec<Edge
     requires low { All IsRect low.now }
     ensures edges { IfOk result (λ r. All IsEdge r.items) }
     ensures balanced { IfOk result (λ r. IsBalanced r.items) }
-    ensures set { IfOk result (λ r. (s : Square) → set_of First r.items s
+    ensures set { IfOk result (λ r. (s : Square) → set_of Or r.items s
         ≡ covers (high.items ++ low.now) s) }
 {
     high.extend_from_slice(low)?;
@@ -68,26 +68,26 @@ fn touching(alloc: Global, mut high: Vec<Rect>, low: &[Rect]) -> Result<Vec<Edge
 fn blocks_by(
     alloc: Global,
     edges: Vec<Edge>,
-    rule: Rule,
+    op: Op,
     ways: Ways,
     depth: u32,
 ) -> Result<Vec<Rect>, AllocError>
     requires edges { All IsEdge edges.items }
     requires balanced { IsBalanced edges.items }
-    ensures { IfOk result (λ r. AreBlocks (set_of rule edges.items) r.items) }
+    ensures { IfOk result (λ r. AreBlocks (set_of op edges.items) r.items) }
 {
     if depth == 0 {
-        return blocks(alloc, edges, rule);
+        return blocks(alloc, edges, op);
     }
     let Some(cut) = line_of(alloc, &edges, ways)? else {
-        return blocks(alloc, edges, rule);
+        return blocks(alloc, edges, op);
     };
     let Some(Sides { low, high }) = sides_of(alloc, &edges, &cut)? else {
-        return blocks(alloc, edges, rule);
+        return blocks(alloc, edges, op);
     };
     drop(edges);
-    let low = blocks_by(alloc, low, rule, ways, depth - 1)?;
-    let high = blocks_by(alloc, high, rule, ways, depth - 1)?;
+    let low = blocks_by(alloc, low, op, ways, depth - 1)?;
+    let high = blocks_by(alloc, high, op, ways, depth - 1)?;
     let Halves {
         mut done,
         low,
@@ -96,7 +96,7 @@ fn blocks_by(
     let joined = match cut.axis {
         Axis::X => {
             let edges = touching(alloc, high, &low)?;
-            blocks_by(alloc, edges, Rule::First, Ways::Level, depth - 1)?
+            blocks_by(alloc, edges, Op::Or, Ways::Level, depth - 1)?
         }
         Axis::Y => join_level(alloc, low, high)?,
     };
@@ -105,21 +105,21 @@ fn blocks_by(
 }
 
 /// The rectangles of the set that the edges give, in parts as long as that makes the sweep faster.
-pub fn blocks_in_parts(alloc: Global, edges: Vec<Edge>, rule: Rule) -> Result<Vec<Rect>, AllocError>
+pub fn blocks_in_parts(alloc: Global, edges: Vec<Edge>, op: Op) -> Result<Vec<Rect>, AllocError>
     requires edges { All IsEdge edges.items }
     requires balanced { IsBalanced edges.items }
-    ensures { IfOk result (λ r. AreBlocks (set_of rule edges.items) r.items) }
+    ensures { IfOk result (λ r. AreBlocks (set_of op edges.items) r.items) }
 {
-    blocks_by(alloc, edges, rule, Ways::Both, DEEPEST)
+    blocks_by(alloc, edges, op, Ways::Both, DEEPEST)
 }
 
-/// The rectangles of the squares where the rule holds of the two lists.
-pub fn combine(alloc: Global, a: &[Rect], b: &[Rect], rule: Rule) -> Result<Vec<Rect>, AllocError>
+/// The rectangles of the squares where the operator holds of the two lists.
+pub fn combine(alloc: Global, a: &[Rect], b: &[Rect], op: Op) -> Result<Vec<Rect>, AllocError>
     requires a { All IsRect a.now }
     requires b { All IsRect b.now }
-    ensures { IfOk result (λ r. AreBlocks (combined_set rule a.now b.now) r.items) }
+    ensures { IfOk result (λ r. AreBlocks (combined_set op a.now b.now) r.items) }
 {
     let edges = edges_of(alloc, a, b)?;
-    let rects = blocks_in_parts(alloc, edges, rule)?;
+    let rects = blocks_in_parts(alloc, edges, op)?;
     Ok(rects)
 }

@@ -17,5 +17,5 @@ mod set;
 mod strips;
 mod sums;
 
-pub use row::{Edge, Rule};
+pub use row::Edge;
 pub use set::{RectSet, canonical_rects, combine_rects, one_list, sweep};

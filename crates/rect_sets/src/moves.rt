@@ -7,33 +7,15 @@ ghost use Rattle.geo_base.specs.Near.{IsNearRect, IsNearMotion};
 ghost use Rattle.geo_base.specs.Motions.{moved_square};
 ghost use Rattle.geo_base.specs.declared.shapes.Square.{Square};
 ghost use Rattle.rect_sets.specs.Rects.{covers};
-ghost use Rattle.rect_sets.specs.Moves.{shift, shifted, overlap, meets, meeting};
+ghost use Rattle.rect_sets.specs.Moves.{shift, shifted, meeting};
 
 use geo_base::{Motion, Rect};
 use std::alloc::{AllocError, Global};
 
-fn overlaps_across(rect: &Rect, w: &Rect) -> bool
-    ensures { result ≡ overlap rect.now.x1 rect.now.x2 w.now.x1 w.now.x2 }
-{
-    rect.x1 < w.x2 && w.x1 < rect.x2
-}
-
-fn overlaps_up(rect: &Rect, w: &Rect) -> bool
-    ensures { result ≡ overlap rect.now.y1 rect.now.y2 w.now.y1 w.now.y2 }
-{
-    rect.y1 < w.y2 && w.y1 < rect.y2
-}
-
-fn meets(rect: &Rect, w: &Rect) -> bool
-    ensures { result ≡ meets w.now rect.now }
-{
-    overlaps_across(rect, w) && overlaps_up(rect, w)
-}
-
 fn push_meeting(out: &mut Vec<Rect>, rect: &Rect, w: &Rect) -> Result<(), AllocError>
     ensures { OnOk result (out.new.items ≡ out.old.items ++ meeting w.now (rect.now ∷ [])) }
 {
-    if meets(rect, w) {
+    if rect.meets(w) {
         out.push(*rect)?;
     }
     Ok(())

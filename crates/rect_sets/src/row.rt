@@ -4,6 +4,7 @@ ghost use Rattle.std.specs.Prelude.{◌≡◌, ℤ, ◌≤ℤ◌, ◌<ℤ◌, On
 ghost use Rattle.rect_sets.specs.Edges.{holds, is_some};
 ghost use Rattle.rect_sets.specs.Rows.{IsRow, AreRunsUpTo, Grows, HasRunsOf};
 
+use geo_base::Op;
 use std::alloc::AllocError;
 
 /// The numbers from x1 up to x2.
@@ -23,38 +24,17 @@ pub struct Edge {
     pub second: i32,
 }
 
-#[derive(Clone, Copy, Debug, PartialEq, Eq)]
-pub enum Rule {
-    First,
-    And,
-    Or,
-    Not,
-    Xor,
-}
-
 fn is_some(weight: i128) -> bool
     ensures { result ≡ is_some weight }
 {
     weight < 0 || 0 < weight
 }
 
-impl Rule {
-    ghost use Rattle.std.specs.Prelude.{◌≡◌};
-    ghost use Rattle.rect_sets.specs.Edges.{holds};
-
-    pub fn holds(self, first: i128, second: i128) -> bool
-        ensures { result ≡ holds self first second }
-    {
-        let a = is_some(first);
-        let b = is_some(second);
-        match self {
-            Rule::First => a,
-            Rule::And => a && b,
-            Rule::Or => a || b,
-            Rule::Not => a && !b,
-            Rule::Xor => a != b,
-        }
-    }
+// Whether the operator holds of two weights.
+fn holds(op: Op, first: i128, second: i128) -> bool
+    ensures { result ≡ holds op first second }
+{
+    op.holds(is_some(first), is_some(second))
 }
 
 // Adds a range that begins at or past the end of the last run, where it is inside.
@@ -80,16 +60,16 @@ fn grow(out: &mut Vec<Span>, from: i64, to: i64, inside: bool) -> Result<(), All
 }
 
 /// The longest runs of the row that has these edges, none of which begins left of low.
-pub fn row_runs(edges: &[Edge], low: i64, rule: Rule, out: &mut Vec<Span>) -> Result<(), AllocError>
+pub fn row_runs(edges: &[Edge], low: i64, op: Op, out: &mut Vec<Span>) -> Result<(), AllocError>
     requires { IsRow low edges.now }
-    ensures { OnOk result (HasRunsOf rule edges.now out.new.items) }
+    ensures { OnOk result (HasRunsOf op edges.now out.new.items) }
 {
     out.clear();
     let mut from = low;
     let mut first = 0i128;
     let mut second = 0i128;
     for edge in edges {
-        let inside = rule.holds(first, second);
+        let inside = holds(op, first, second);
         grow(out, from, edge.x, inside)?;
         first += i128::from(edge.first);
         second += i128::from(edge.second);

@@ -5,15 +5,15 @@ ghost use Rattle.std.specs.List.{All};
 ghost use Rattle.geo_base.specs.Rects.{IsRect};
 ghost use Rattle.rect_sets.specs.Rects.{covers, CanonicalLaw, OneListLaw};
 ghost use Rattle.rect_sets.specs.Edges.{set_of, IsEdge, IsBalanced};
-ghost use Rattle.rect_sets.specs.Combined.{combined};
+ghost use Rattle.geo_base.specs.Layers.{combined};
 ghost use Rattle.geo_base.specs.declared.shapes.Square.{Square};
 
 use crate::divide::combine_parts;
 use crate::halves::blocks_in_parts;
 use crate::moves::{images, meeting, shifted};
 use crate::order::in_order;
-use crate::row::{Edge, Rule};
-use geo_base::{Motion, Rect, Square, Turn};
+use crate::row::Edge;
+use geo_base::{Motion, Op, Rect, Square, Turn};
 use std::alloc::{AllocError, Global};
 use std::marker::Model;
 
@@ -46,6 +46,7 @@ impl RectSet {
     ghost use Rattle.geo_base.specs.Rects.{has, IsRect};
     ghost use Rattle.geo_base.specs.Near.{IsNearMotion};
     ghost use Rattle.geo_base.specs.Motions.{moved_square};
+    ghost use Rattle.geo_base.specs.Layers.{combined};
     ghost use Rattle.rect_sets.specs.Near.{IsNearSet};
     ghost use Rattle.rect_sets.specs.Rects.{covers, IsCanonical};
     ghost use Rattle.geo_base.specs.declared.shapes.Square.{Square};
@@ -93,7 +94,8 @@ impl RectSet {
         if rects.len() <= 1 {
             return Ok(RectSet { rects });
         }
-        combine_rects(alloc, &rects, &[], Rule::First)
+        let set = combine_rects(alloc, &rects, &[], Op::Or)?;
+        Ok(set)
     }
 
     /// The part of the set in a rectangle, in O(n) and the cost of `canon` for the rectangles that
@@ -103,7 +105,17 @@ impl RectSet {
         ensures { IfOk result (λ r. (s : Square) → covers r s ≡ (covers self.now s && has w s)) }
     {
         let near = meeting(alloc, self.rects(), &w)?;
-        let set = combine_rects(alloc, &near, &[w], Rule::And)?;
+        let set = combine_rects(alloc, &near, &[w], Op::And)?;
+        Ok(set)
+    }
+
+    /// The squares where the operator holds of the two sets: of both, of either, of the first
+    /// alone, of one alone. Cost as `canon` for the rectangles of the two.
+    pub fn combined(&self, alloc: Global, other: &RectSet, op: Op) -> Result<RectSet, AllocError>
+        ensures { IfOk result (λ r. (s : Square) → covers r s
+            ≡ combined op (covers self.now s) (covers other.now s)) }
+    {
+        let set = combine_rects(alloc, self.rects(), other.rects(), op)?;
         Ok(set)
     }
 
@@ -127,35 +139,29 @@ impl RectSet {
     }
 }
 
-/// The squares where the rule holds of two unions of rectangles: of First, those of `a`. Cost as
-/// `RectSet::canon`.
-pub fn combine_rects(
-    alloc: Global,
-    a: &[Rect],
-    b: &[Rect],
-    rule: Rule,
-) -> Result<RectSet, AllocError>
+/// The squares where the operator holds of two unions of rectangles. Cost as `RectSet::canon`.
+pub fn combine_rects(alloc: Global, a: &[Rect], b: &[Rect], op: Op) -> Result<RectSet, AllocError>
     requires a { All IsRect a.now }
     requires b { All IsRect b.now }
     ensures { IfOk result (λ r. (s : Square) → covers r s
-        ≡ combined rule (covers a.now s) (covers b.now s)) }
+        ≡ combined op (covers a.now s) (covers b.now s)) }
 {
-    let found = combine_parts(alloc, a, b, rule, DEEPEST)?;
+    let found = combine_parts(alloc, a, b, op, DEEPEST)?;
     let rects = in_order(alloc, found)?;
     Ok(RectSet { rects })
 }
 
-/// The squares where the rule holds of the two sums of the weights of the edges that act on them,
-/// as in a fill by winding number. The edges may come in any order; the weights of each row sum to
-/// 0. In O(n log n + k + m log m) for n edges, k crossings of edges with strips within a part of
+/// The squares where the operator holds of the two sums of the weights of the edges that act on
+/// them, as in a fill by winding number. The edges may come in any order; the weights of each row
+/// sum to 0. In O(n log n + k + m log m) for n edges, k crossings of edges with strips within a part of
 /// the plane, m rectangles of the result: where strips would cross many edges, the edges are cut in
 /// two again and again. An `Err` is want of memory.
-pub fn sweep(alloc: Global, edges: Vec<Edge>, rule: Rule) -> Result<RectSet, AllocError>
+pub fn sweep(alloc: Global, edges: Vec<Edge>, op: Op) -> Result<RectSet, AllocError>
     requires edges { All IsEdge edges.items }
     requires balanced { IsBalanced edges.items }
-    ensures { IfOk result (λ r. (s : Square) → covers r s ≡ set_of rule edges.items s) }
+    ensures { IfOk result (λ r. (s : Square) → covers r s ≡ set_of op edges.items s) }
 {
-    let found = blocks_in_parts(alloc, edges, rule)?;
+    let found = blocks_in_parts(alloc, edges, op)?;
     let rects = in_order(alloc, found)?;
     Ok(RectSet { rects })
 }

@@ -9,8 +9,8 @@ ghost use Rattle.std.specs.List.Sorted.{IsPermutation};
 
 use crate::active::{renew, strip_end};
 use crate::opens::step;
-use crate::row::{Edge, Rule, row_runs};
-use geo_base::Rect;
+use crate::row::{Edge, row_runs};
+use geo_base::{Op, Rect};
 use std::alloc::{AllocError, Global};
 use std::mem;
 
@@ -24,11 +24,11 @@ fn read_all(edges: &[Edge])
 }
 
 // The rectangles of the set that sorted edges give, in the order of their upper ends.
-fn sorted_blocks(alloc: Global, edges: &[Edge], rule: Rule) -> Result<Vec<Rect>, AllocError>
+fn sorted_blocks(alloc: Global, edges: &[Edge], op: Op) -> Result<Vec<Rect>, AllocError>
     requires edges { All IsEdge edges.now }
     requires sorted { AreSortedEdges edges.now }
     requires balanced { IsBalanced edges.now }
-    ensures { IfOk result (λ r. AreBlocks (set_of rule edges.now) r.items) }
+    ensures { IfOk result (λ r. AreBlocks (set_of op edges.now) r.items) }
 {
     read_all(edges);
     let mut active = Vec::new(alloc);
@@ -45,7 +45,7 @@ fn sorted_blocks(alloc: Global, edges: &[Edge], rule: Rule) -> Result<Vec<Rect>,
             break;
         }
         let end = strip_end(&active, edges, at, y);
-        row_runs(&active, i64::MIN, rule, &mut runs)?;
+        row_runs(&active, i64::MIN, op, &mut runs)?;
         step(&opens, &runs, y, &mut next, &mut closed)?;
         mem::swap(&mut opens, &mut next);
         y = end;
@@ -65,12 +65,12 @@ fn sort_edges(edges: &mut Vec<Edge>) -> Result<(), AllocError>
 }
 
 /// The rectangles of the set that the edges give.
-pub fn blocks(alloc: Global, mut edges: Vec<Edge>, rule: Rule) -> Result<Vec<Rect>, AllocError>
+pub fn blocks(alloc: Global, mut edges: Vec<Edge>, op: Op) -> Result<Vec<Rect>, AllocError>
     requires edges { All IsEdge edges.items }
     requires balanced { IsBalanced edges.items }
-    ensures { IfOk result (λ r. AreBlocks (set_of rule edges.items) r.items) }
+    ensures { IfOk result (λ r. AreBlocks (set_of op edges.items) r.items) }
 {
     sort_edges(&mut edges)?;
-    let rects = sorted_blocks(alloc, &edges, rule)?;
+    let rects = sorted_blocks(alloc, &edges, op)?;
     Ok(rects)
 }

@@ -6,7 +6,7 @@ use Rattle.round_laws.specs.Web.{IsNode, Guess, agree, on_left, on_right, IsEven
 use Rattle.round_laws.specs.Nodes.{Node}
 use Rattle.round_laws.specs.Colours.{AreColours}
 use Rattle.round_laws.proofs.Agree.{count_same}
-use Rattle.part_laws.proofs.Renamed.{renamed, came, goes}
+use Rattle.round_laws.proofs.Renamed.{renamed, came, goes}
 use Rattle.match_laws.specs.Circuits.{Pair, web_of}
 use Rattle.match_graph.specs.declared.graph.Graph.{Graph}
 use Rattle.match_graph.specs.Graph.{IsGraphOf, graph_web, port_name}

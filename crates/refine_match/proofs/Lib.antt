@@ -25,3 +25,4 @@ pub mod Kept
 pub mod DeviceCounts
 pub mod ClassCounts
 pub mod Follows
+pub mod Known

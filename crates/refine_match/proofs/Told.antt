@@ -10,8 +10,8 @@ use Rattle.round_laws.specs.Guesses.{guessed}
 use Rattle.round_laws.proofs.Agree.{in_left, count_same, under_web}
 use Rattle.round_laws.proofs.Stable.{in_either, stays}
 use Rattle.round_laws.proofs.Unique.{either_way}
-use Rattle.part_laws.specs.Renamed.{renamed_guess}
-use Rattle.part_laws.proofs.Resumed.{even_before}
+use Rattle.round_laws.specs.Renamed.{renamed_guess}
+use Rattle.round_laws.proofs.Resumed.{even_before}
 use Rattle.match_laws.specs.Circuits.{Pair, web_of}
 use Rattle.match_graph.specs.declared.graph.Graph.{Graph}
 use Rattle.match_graph.specs.Graph.{IsGraph, graph_web, left_of, nodes_of}

@@ -3,7 +3,7 @@ use Rattle.std.specs.Prelude.{◌≡◌, ◌≢◌, ◌≤◌, ℕ, List, map}
 use Rattle.round_laws.specs.Web.{IsWeb, IsEven, IsStable, Guess, under}
 use Rattle.round_laws.specs.Nodes.{Node}
 use Rattle.round_laws.specs.Colours.{AreColours}
-use Rattle.part_laws.specs.Renamed.{AreOfNodes, renamed_guess}
+use Rattle.round_laws.specs.Renamed.{AreOfNodes, renamed_guess}
 use Rattle.match_laws.specs.Circuits.{Pair, web_of}
 use Rattle.match_graph.specs.declared.graph.Graph.{Graph}
 use Rattle.match_graph.specs.Graph.{IsGraphOf}

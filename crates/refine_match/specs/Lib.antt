@@ -8,4 +8,5 @@ pub mod Pairings
 pub mod Candidates
 pub mod ByRounds
 pub mod Searching
+pub mod Sides
 pub mod Matching

@@ -13,13 +13,13 @@ ghost use Rattle.refine_match.specs.ByRounds.{AreFirstTies, IsFirstRound, IsRoun
 ghost use Rattle.refine_match.specs.Choosing.{AreUntied};
 
 use crate::evidence::evidence_of;
+use crate::first_unmatched;
 use crate::lists::Lists;
 use crate::pairings::read_pairing;
 use match_graph::Graph;
 use match_rounds::{Classes, Verdict, refine};
 use match_types::{Answer, ChildPins};
 use net_model::Circuit;
-use pair_parts::first_unmatched;
 use std::alloc::{AllocError, Global};
 
 /// What the rounds come to.

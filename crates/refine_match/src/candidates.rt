@@ -1,12 +1,12 @@
 //! The right nodes that a left node is guessed to go to, one after another.
 
 ghost use Rattle.std.specs.Prelude.{◌≡◌, ◌<◌, ◌≤◌, ◌↔◌, ℕ, IfSome, List, length, nat_lt, true};
-ghost use Rattle.match_graph.specs.Graph.{IsGraph, left_of, nodes_of};
+ghost use Rattle.match_graph.specs.Graph.{left_of, nodes_of};
 ghost use Rattle.match_rounds.specs.Classes.{IsPartition, class_in};
-ghost use Rattle.refine_match.specs.Candidates.{HaveNets, IsBestBehind, IsFirst, IsSureFirst};
-ghost use Rattle.refine_match.specs.Candidates.{NextLaw, candidate_rank, have_one_name, is_behind};
-ghost use Rattle.refine_match.specs.Candidates.{rank_at};
-ghost use Rattle.refine_match.specs.Namesakes.{AreNamesakes, IsNamesake};
+ghost use Rattle.refine_match.specs.Candidates.{IsBestBehind, IsFirst, IsSureFirst, NextLaw};
+ghost use Rattle.refine_match.specs.Candidates.{candidate_rank, have_one_name, is_behind};
+ghost use Rattle.refine_match.specs.Namesakes.{IsNamesake};
+ghost use Rattle.refine_match.specs.Sides.{AreSides, rank_by};
 ghost use Rattle.refine_match.specs.Rights.{AreRightsOf};
 ghost use Rattle.match_rounds.specs.Turned.{AreAllOf};
 
@@ -23,135 +23,132 @@ pub struct Candidate {
     pub node: u32,
 }
 
-/// The next candidate of a left node behind the last one: the right nodes of its class, those of
-/// its name first, each group by number. Where it is the first right net of its name, or the first
-/// right node of the class has the name or no right net has, the first candidate is found in the
-/// time to pass over what left the class; any other in a time in proportion to its size.
-pub fn next_candidate(
-    graph: &Graph,
-    classes: &Classes,
-    rights: &Rights,
-    left: &Circuit,
-    right: &Circuit,
-    namesakes: &[Option<u32>],
-    node: u32,
-    last: Option<Candidate>,
-) -> Option<Candidate>
-    requires graph { IsGraph graph.now }
-    requires namesakes { AreNamesakes left.now right.now namesakes.now }
-    requires partition { IsPartition classes.now (left_of graph.now) (nodes_of graph.now) }
-    requires rights { AreRightsOf rights.now graph.now classes.now }
-    requires nets { HaveNets graph.now left.now right.now }
-    requires node { node < left_of graph.now }
-    ensures { (items : List ℕ) × AreAllOf (class_in classes.now) (class_in classes.now node) items
-        (nodes_of graph.now) × IsBestBehind graph.now (rank_at graph.now left.now right.now node)
-        last items (length items) result }
-{
-    let class = classes.of(node);
-    let members = classes.members(graph, class);
-    if last.is_none() {
-        if let Some(candidate) = first_candidate(
-            graph, classes, rights, left, right, namesakes, node,
-        ) {
-            return Some(candidate);
-        }
-    }
-    best_of(graph, left, right, members, node, last)
+/// Two circuits that are matched, with their graph, and for each left net the first right net of its
+/// name.
+#[derive(Clone, Copy)]
+pub struct Sides<'a> {
+    pub graph: &'a Graph,
+    pub left: &'a Circuit,
+    pub right: &'a Circuit,
+    pub namesakes: &'a [Option<u32>],
 }
 
-// The first candidate of a left node, if it is known without a walk over the class: the first right
-// net of its name, or the first right node of the class, where this has the name or no right net
-// has.
-fn first_candidate(
-    graph: &Graph,
-    classes: &Classes,
-    rights: &Rights,
-    left: &Circuit,
-    right: &Circuit,
-    namesakes: &[Option<u32>],
-    node: u32,
-) -> Option<Candidate>
-    requires graph { IsGraph graph.now }
-    requires namesakes { AreNamesakes left.now right.now namesakes.now }
-    requires partition { IsPartition classes.now (left_of graph.now) (nodes_of graph.now) }
-    requires rights { AreRightsOf rights.now graph.now classes.now }
-    requires nets { HaveNets graph.now left.now right.now }
-    requires node { node < left_of graph.now }
-    ensures { IfSome result (IsSureFirst graph.now classes.now
-        (rank_at graph.now left.now right.now node) (class_in classes.now node)) }
-{
-    let class = classes.of(node);
-    let namesake = namesake_of(graph, left, right, namesakes, node);
-    if let Some(net) = namesake {
-        if classes.of(net) == class {
-            return Some(Candidate {
-                has_name: true,
-                node: net,
-            });
-        }
-    }
-    let first = rights.first(graph, classes, class)?;
-    let has_name = is_one_name(graph, left, right, node, first);
-    if has_name || namesake.is_none() {
-        return Some(Candidate {
-            has_name,
-            node: first,
-        });
-    }
-    None
-}
-
-// The first right net of the name of a left node, if this is a net and a right net has its name.
-fn namesake_of(
-    graph: &Graph,
-    left: &Circuit,
-    right: &Circuit,
-    namesakes: &[Option<u32>],
-    node: u32,
-) -> Option<u32>
-    requires graph { IsGraph graph.now }
-    requires namesakes { AreNamesakes left.now right.now namesakes.now }
-    requires nets { HaveNets graph.now left.now right.now }
-    ensures { IsNamesake graph.now left.now right.now node result }
-{
-    if graph.left.first_device() <= node {
-        return None;
-    }
-    match namesakes[(node - graph.left.first) as usize] {
-        Some(net) => Some(graph.right.first + net),
-        None => None,
-    }
-}
-
-// The best candidate behind the last one of the right ones of these nodes.
-fn best_of(
-    graph: &Graph,
-    left: &Circuit,
-    right: &Circuit,
-    nodes: &[u32],
-    node: u32,
-    last: Option<Candidate>,
-) -> Option<Candidate>
-    requires graph { IsGraph graph.now }
-    requires nets { HaveNets graph.now left.now right.now }
-    requires node { node < left_of graph.now }
-    ensures { IsBestBehind graph.now (rank_at graph.now left.now right.now node) last nodes.now
-        (length nodes.now) result }
-{
-    let left_count = graph.left_count();
-    let mut best = None;
-    for other in nodes {
-        if left_count <= *other {
-            let candidate = Candidate {
-                has_name: is_one_name(graph, left, right, node, *other),
-                node: *other,
-            };
-            if is_after(candidate, last) && is_first(candidate, best) {
-                best = Some(candidate);
+impl<'a> Sides<'a> {
+    /// The next candidate of a left node behind the last one: the right nodes of its class, those of
+    /// its name first, each group by number. Where it is the first right net of its name, or the
+    /// first right node of the class has the name or no right net has, the first candidate is found
+    /// in the time to pass over what left the class; any other in a time in proportion to its size.
+    pub fn next_candidate(
+        &self,
+        classes: &Classes,
+        rights: &Rights,
+        node: u32,
+        last: Option<Candidate>,
+    ) -> Option<Candidate>
+        requires sides { AreSides self.now }
+        requires partition { IsPartition classes.now (left_of self.now.graph.now)
+            (nodes_of self.now.graph.now) }
+        requires rights { AreRightsOf rights.now self.now.graph.now classes.now }
+        requires node { node < left_of self.now.graph.now }
+        ensures { (items : List ℕ) × AreAllOf (class_in classes.now) (class_in classes.now node)
+            items (nodes_of self.now.graph.now) × IsBestBehind self.now.graph.now
+            (rank_by self.now node) last items (length items) result }
+    {
+        let class = classes.of(node);
+        let members = classes.members(self.graph, class);
+        if last.is_none() {
+            if let Some(candidate) = self.first_candidate(classes, rights, node) {
+                return Some(candidate);
             }
         }
+        self.best_of(members, node, last)
     }
-    best
+
+    // The first candidate of a left node, if it is known without a walk over the class: the first
+    // right net of its name, or the first right node of the class, where this has the name or no
+    // right net has.
+    fn first_candidate(&self, classes: &Classes, rights: &Rights, node: u32) -> Option<Candidate>
+        requires sides { AreSides self.now }
+        requires partition { IsPartition classes.now (left_of self.now.graph.now)
+            (nodes_of self.now.graph.now) }
+        requires rights { AreRightsOf rights.now self.now.graph.now classes.now }
+        requires node { node < left_of self.now.graph.now }
+        ensures { IfSome result (IsSureFirst self.now.graph.now classes.now
+            (rank_by self.now node) (class_in classes.now node)) }
+    {
+        let class = classes.of(node);
+        let namesake = self.namesake_of(node);
+        if let Some(net) = namesake {
+            if classes.of(net) == class {
+                return Some(Candidate {
+                    has_name: true,
+                    node: net,
+                });
+            }
+        }
+        let first = rights.first(self.graph, classes, class)?;
+        let has_name = self.is_one_name(node, first);
+        if has_name || namesake.is_none() {
+            return Some(Candidate {
+                has_name,
+                node: first,
+            });
+        }
+        None
+    }
+
+    // The first right net of the name of a left node, if this is a net and a right net has its name.
+    fn namesake_of(&self, node: u32) -> Option<u32>
+        requires { AreSides self.now }
+        ensures { IsNamesake self.now.graph.now self.now.left.now self.now.right.now node result }
+    {
+        let graph = self.graph;
+        if graph.left.first_device() <= node {
+            return None;
+        }
+        match self.namesakes[(node - graph.left.first) as usize] {
+            Some(net) => Some(graph.right.first + net),
+            None => None,
+        }
+    }
+
+    // The best candidate behind the last one of the right ones of these nodes.
+    fn best_of(&self, nodes: &[u32], node: u32, last: Option<Candidate>) -> Option<Candidate>
+        requires sides { AreSides self.now }
+        requires node { node < left_of self.now.graph.now }
+        ensures { IsBestBehind self.now.graph.now (rank_by self.now node) last nodes.now
+            (length nodes.now) result }
+    {
+        let left_count = self.graph.left_count();
+        let mut best = None;
+        for other in nodes {
+            if left_count <= *other {
+                let candidate = Candidate {
+                    has_name: self.is_one_name(node, *other),
+                    node: *other,
+                };
+                if is_after(candidate, last) && is_first(candidate, best) {
+                    best = Some(candidate);
+                }
+            }
+        }
+        best
+    }
+
+    // Whether a left node and a right one are nets of one name.
+    fn is_one_name(&self, x: u32, y: u32) -> bool
+        requires sides { AreSides self.now }
+        requires left { self.now.graph.now.left.first ≤ x }
+        requires right { self.now.graph.now.right.first ≤ y }
+        ensures { result ≡ have_one_name self.now.graph.now self.now.left.now self.now.right.now
+            x y }
+    {
+        let graph = self.graph;
+        x < graph.left.first_device()
+            && y < graph.right.first_device()
+            && self.left.nets[(x - graph.left.first) as usize]
+                == self.right.nets[(y - graph.right.first) as usize]
+    }
 }
 
 /// The first right node behind the last candidate is the next one of all candidates in order.
@@ -188,17 +185,4 @@ fn is_before(first: Candidate, second: Candidate) -> bool
     } else {
         first.has_name
     }
-}
-
-// Whether a left node and a right one are nets of one name.
-fn is_one_name(graph: &Graph, left: &Circuit, right: &Circuit, x: u32, y: u32) -> bool
-    requires nets { HaveNets graph.now left.now right.now }
-    requires left { graph.now.left.first ≤ x }
-    requires right { graph.now.right.first ≤ y }
-    ensures { result ≡ have_one_name graph.now left.now right.now x y }
-{
-    x < graph.left.first_device()
-        && y < graph.right.first_device()
-        && left.nets[(x - graph.left.first) as usize]
-            == right.nets[(y - graph.right.first) as usize]
 }

@@ -2,6 +2,7 @@
 #![tactic(auto)]
 
 mod by_rounds;
+mod called;
 mod candidates;
 mod choosing;
 mod evidence;
@@ -15,4 +16,5 @@ mod rights;
 mod searching;
 mod ties;
 
+pub use called::first_unmatched;
 pub use matching::match_circuits;

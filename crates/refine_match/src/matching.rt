@@ -11,10 +11,11 @@ ghost use Rattle.refine_match.specs.Candidates.{IsPairOf};
 ghost use Rattle.refine_match.specs.Matching.{AreSingleClasses, CarriesPairing, ExcludesPairings};
 ghost use Rattle.refine_match.specs.Matching.{HaveUnevenClass, HaveUnevenDevices, IsDecided};
 ghost use Rattle.refine_match.specs.Matching.{IsDifference, IsEnough, IsUndecided};
-ghost use Rattle.refine_match.specs.Namesakes.{AreNamesakes};
 ghost use Rattle.refine_match.specs.Searching.{IsKept};
+ghost use Rattle.refine_match.specs.Sides.{AreSides};
 
 use crate::by_rounds::{Rounds, by_rounds};
+use crate::candidates::Sides;
 use crate::namesakes::list_namesakes;
 use crate::pairings::read_pairing;
 use crate::searching::Search;
@@ -109,28 +110,32 @@ fn by_guesses(
         → IsAnswer p (equal_names p) begun.limit (plain_answer answer)) }
 {
     let namesakes = list_namesakes(alloc, left, right)?;
+    let sides = Sides {
+        graph,
+        left,
+        right,
+        namesakes: &namesakes,
+    };
     let mut search = begun;
-    decide(alloc, graph, left, right, &namesakes, &mut search)
+    decide(alloc, &sides, &mut search)
 }
 
 // Guesses until a search comes to its answer.
-fn decide(
-    alloc: Global,
-    graph: &Graph,
-    left: &Circuit,
-    right: &Circuit,
-    namesakes: &[Option<u32>],
-    search: &mut Search,
-) -> Result<Answer, AllocError>
-    requires namesakes { AreNamesakes left.now right.now namesakes.now }
-    requires pair { (p : Pair) × IsPairOf p graph.now left.now right.now × IsWeb (web_of p) }
-    requires way { IsKept graph.now left.now right.now search.old.limit search.old }
-    ensures { IfOk result (λ answer. (p : Pair) → IsPairOf p graph.now left.now right.now
+fn decide(alloc: Global, sides: &Sides<'_>, search: &mut Search) -> Result<Answer, AllocError>
+    requires sides { AreSides sides.now }
+    requires pair { (p : Pair)
+        × IsPairOf p sides.now.graph.now sides.now.left.now sides.now.right.now
+        × IsWeb (web_of p) }
+    requires way { IsKept sides.now.graph.now sides.now.left.now sides.now.right.now
+        search.old.limit search.old }
+    ensures { IfOk result (λ answer. (p : Pair)
+        → IsPairOf p sides.now.graph.now sides.now.left.now sides.now.right.now
         → IsWeb (web_of p) → AreMatched p
         → IsAnswer p (equal_names p) search.old.limit (plain_answer answer)) }
 {
+    let graph = sides.graph;
     loop {
-        match search.next(graph, left, right, namesakes) {
+        match search.next(sides) {
             Some(candidate) => {
                 if search.refuted == search.limit {
                     return Ok(Answer::Undecided(search.take_rows(alloc)));

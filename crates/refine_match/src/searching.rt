@@ -8,16 +8,15 @@ ghost use Rattle.match_rounds.specs.Classes.{IsPartition};
 ghost use Rattle.match_rounds.specs.Refined.{AreSettled};
 ghost use Rattle.match_rounds.specs.Start.{AreGuesses, guessed_web};
 ghost use Rattle.refine_match.specs.ByRounds.{AreTies};
-ghost use Rattle.refine_match.specs.Candidates.{HaveNets, IsNextOf, IsPairOf};
-ghost use Rattle.refine_match.specs.Namesakes.{AreNamesakes};
+ghost use Rattle.refine_match.specs.Candidates.{IsNextOf, IsPairOf};
 ghost use Rattle.refine_match.specs.Searching.{HasEvenEnd, HasLeft, IsLeft, IsShorter, IsUnderWay};
+ghost use Rattle.refine_match.specs.Sides.{AreSides};
 
-use crate::candidates::{Candidate, next_candidate};
+use crate::candidates::{Candidate, Sides};
 use crate::lists::Lists;
 use match_graph::Graph;
 use match_rounds::{Classes, refine};
 use match_types::{Guess, GuessEnd};
-use net_model::Circuit;
 use std::alloc::{AllocError, Global};
 use std::mem;
 
@@ -71,31 +70,17 @@ impl Search {
     }
 
     /// The next candidate of the level. The time is in proportion to the size of a class at most.
-    pub fn next(
-        &self,
-        graph: &Graph,
-        left: &Circuit,
-        right: &Circuit,
-        namesakes: &[Option<u32>],
-    ) -> Option<Candidate>
-        requires namesakes { AreNamesakes left.now right.now namesakes.now }
-        requires way { (p : Pair) × IsUnderWay p graph.now self.now }
-        requires nets { HaveNets graph.now left.now right.now }
-        ensures next { (p : Pair) → IsPairOf p graph.now left.now right.now
-            → (way : IsUnderWay p graph.now self.now)
+    pub fn next(&self, sides: &Sides<'_>) -> Option<Candidate>
+        requires sides { AreSides sides.now }
+        requires way { (p : Pair) × IsUnderWay p sides.now.graph.now self.now }
+        ensures next { (p : Pair)
+            → IsPairOf p sides.now.graph.now sides.now.left.now sides.now.right.now
+            → (way : IsUnderWay p sides.now.graph.now self.now)
             → IsNextOf p way.search.stage.node self.now.level.last way.search.stage.tries result }
-        ensures right { IfSome result (λ c. left_of graph.now ≤ c.node) }
+        ensures right { IfSome result (λ c. left_of sides.now.graph.now ≤ c.node) }
     {
-        next_candidate(
-            graph,
-            &self.classes,
-            &self.lists.rights,
-            left,
-            right,
-            namesakes,
-            self.level.node,
-            self.level.last,
-        )
+        let (node, last) = (self.level.node, self.level.last);
+        sides.next_candidate(&self.classes, &self.lists.rights, node, last)
     }
 
     /// Goes back to the level above, where no candidate is left, and says whether there is one.

@@ -37,8 +37,8 @@ use Rattle.report_file.specs.Matched.{MatchedReportLaw, MatchesFlat, MatchingLaw
 use Rattle.rule_layers.specs.Meaning.{device_rules, wiring_of}
 use Rattle.rule_text.specs.Rules.{Rules}
 use Rattle.table_laws.specs.NameLaws.{ExtractedGoodLaw}
-use Rattle.whole_laws.proofs.Whole.{merged_whole, whole_on}
-use Rattle.whole_laws.specs.Whole.{IsWhole}
+use Rattle.merge_laws.proofs.NoneLost.{merged_whole, whole_on}
+use Rattle.merge_laws.specs.Whole.{IsWhole}
 
 module _ (alignable : CombinedAlignableLaw) (good : ExtractedGoodLaw) (order : LeftOrderLaw) (flat : FlatCorrespondsLaw) (tops : MatchedTopsLaw) (d : Linked) (r : Rules) (unit : ℕ) (t : Tables) (g : CircuitTables) (level : ℕ → ℕ) (layout : Netlist) (top : ℕ) (bad : List BadGate) (schematic : Netlist)
     (right : AreTablesRight (plain d) (wiring_of r) t g layout (device_rules r) unit level) (top_is : IsCircuitCell g.cells top (plain d).top) (layout_fine : IsAlignable layout) (first : AreCalleesFirst layout) (fine : IsAlignable schematic) where

@@ -29,7 +29,7 @@ use Rattle.report_file.specs.File.{IsReportFile}
 use Rattle.report_file.specs.PinNames.{AreNamesKept}
 use Rattle.rule_layers.specs.Meaning.{device_rules, wiring_of}
 use Rattle.rule_text.specs.Rules.{Rules}
-use Rattle.whole_laws.specs.Whole.{IsWhole}
+use Rattle.merge_laws.specs.Whole.{IsWhole}
 
 -- What joins the flat layout with the flattened schematic: the right tables of the layout's cells,
 -- whose circuits are the layout's netlist with the top's as number top; the lines by which circuits

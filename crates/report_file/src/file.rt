@@ -32,6 +32,15 @@ pub struct Report {
     pub verdict: Verdict,
 }
 
+/// What was extracted from a layout: its netlist as it is compared, the number of the top's circuit
+/// in it, and its bad gates.
+#[derive(Clone, Copy)]
+pub struct Extracted<'a> {
+    pub netlist: &'a Netlist,
+    pub top: u32,
+    pub bad: &'a [BadGate],
+}
+
 // How many pairs there are. It takes no memory.
 fn count_pairs(compared: &Option<Compared>) -> Result<u32, AllocError>
     ensures count { IfOk result (λ n. n ≡ pair_count compared.now) }
@@ -89,24 +98,22 @@ pub fn report_file<R: Threads + Wait + Sync, G: Gate + Sync>(
     alloc: Global,
     design: &Design,
     rules: &RuleSet,
-    netlist: &Netlist,
-    top: u32,
-    bad: &[BadGate],
+    found: &Extracted<'_>,
     schematic: &Netlist,
     crew: &Crew<R, G>,
 ) -> Result<Report, AllocError>
     requires rules { IsSound (rules_seen rules.now) }
-    requires netlist { IsAlignable (plain_netlist netlist.now) }
+    requires netlist { IsAlignable (plain_netlist found.now.netlist.now) }
     requires schematic { IsAlignable (plain_netlist schematic.now) }
-    requires order { AreCalleesFirst (plain_netlist netlist.now) }
-    requires top { top < length netlist.now.circuits.items }
-    requires cells { All (λ x. x.cell < length design.now.cells) bad.now }
+    requires order { AreCalleesFirst (plain_netlist found.now.netlist.now) }
+    requires top { found.now.top < length found.now.netlist.now.circuits.items }
+    requires cells { All (λ x. x.cell < length design.now.cells) found.now.bad.now }
     ensures { IfOk result (λ x. IsReportFile design.now (rules_seen rules.now)
-        (plain_netlist netlist.now) top bad.now (plain_netlist schematic.now) x.text.items x.pairs
-        x.verdict) }
+        (plain_netlist found.now.netlist.now) found.now.top found.now.bad.now
+        (plain_netlist schematic.now) x.text.items x.pairs x.verdict) }
 {
-    let turns = compare_in_turns(alloc, rules, netlist, top, schematic, crew)?;
-    let name = circuit_name(netlist, top as usize);
-    let report = write_report(alloc, design, name, bad, &turns)?;
+    let turns = compare_in_turns(alloc, rules, found.netlist, found.top, schematic, crew)?;
+    let name = circuit_name(found.netlist, found.top as usize);
+    let report = write_report(alloc, design, name, found.bad, &turns)?;
     Ok(report)
 }

@@ -7,7 +7,7 @@ mod laws;
 mod turns;
 
 pub use alignable::{combined_alignable, extracted_alignable, read_alignable};
-pub use file::{Report, report_file};
+pub use file::{Extracted, Report, report_file};
 pub use laws::{
     exact_report, last_partner, matched_report, matching, one_report, report_verdicts, same_match,
     top_partner,

@@ -14,7 +14,7 @@ ghost use Rattle.rule_text.specs.Seen.{rules_seen};
 ghost use Rattle.rule_text.specs.Sound.{IsSound};
 
 use job_board::{Crew, Gate};
-use match_flow::{Comparison, compare};
+use match_flow::{Comparison, Settings, compare};
 use match_report::{Compared, push_apart, push_limit};
 use net_align::partner_of_top;
 use net_model::Netlist;
@@ -40,21 +40,19 @@ fn compare_netlists<R: Threads + Wait + Sync, G: Gate + Sync>(
     layout: &Netlist,
     top: u32,
     schematic: &Netlist,
-    same: &[(Name, Name)],
-    limit: u32,
-    same_pins: bool,
+    settings: &Settings<'_>,
     crew: &Crew<R, G>,
 ) -> Result<Option<Compared>, AllocError>
     requires layout { IsAlignable (plain_netlist layout.now) }
     requires schematic { IsAlignable (plain_netlist schematic.now) }
     requires order { AreCalleesFirst (plain_netlist layout.now) }
     requires top { top < length layout.now.circuits.items }
-    requires lefts { AreApart (left_names same.now) }
-    requires rights { AreApart (right_names same.now) }
+    requires lefts { AreApart (left_names settings.now.same.now) }
+    requires rights { AreApart (right_names settings.now.same.now) }
     ensures { IfOk result (IsComparison (plain_netlist layout.now) top (plain_netlist schematic.now)
-        same.now limit same_pins) }
+        settings.now.same.now settings.now.limit settings.now.same_pins) }
 {
-    let Some(found) = compare(alloc, layout, top, schematic, same, limit, same_pins, crew)? else {
+    let Some(found) = compare(alloc, layout, top, schematic, settings, crew)? else {
         return Ok(None);
     };
     let Comparison {
@@ -202,11 +200,12 @@ pub fn compare_in_turns<R: Threads + Wait + Sync, G: Gate + Sync>(
     let mut lines = Vec::new(alloc);
     'turns: loop {
         let same = same_alone(alloc, &rules.same, &alone, most)?;
-        let (limit, same_pins) = (rules.max_guesses, rules.tells_pins);
-        let Some(found) = compare_netlists(
-            alloc, layout, top, schematic, &same, limit, same_pins, crew,
-        )?
-        else {
+        let settings = Settings {
+            same: &same,
+            limit: rules.max_guesses,
+            same_pins: rules.tells_pins,
+        };
+        let Some(found) = compare_netlists(alloc, layout, top, schematic, &settings, crew)? else {
             return Ok(Turns {
                 lines,
                 compared: None,

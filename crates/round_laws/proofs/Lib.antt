@@ -6,3 +6,6 @@ pub mod Fast
 pub mod Unique
 pub mod Stack
 pub mod Colours
+pub mod Few
+pub mod Resumed
+pub mod Renamed

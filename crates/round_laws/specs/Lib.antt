@@ -4,3 +4,5 @@ pub mod Rounds
 pub mod Guesses
 pub mod Colours
 pub mod Stack
+pub mod Parting
+pub mod Renamed

@@ -6,11 +6,15 @@
 //! search under way). No code runs here; each law is the contract of a function with an empty body.
 #![tactic(auto)]
 
+mod parts;
+
 ghost use Rattle.round_laws.specs.Rounds.{EquivalenceLaw, AgreeLaw, EvenLaw, RefutedLaw, StableLaw};
 ghost use Rattle.round_laws.specs.Rounds.{FiniteLaw, SolvedLaw};
 ghost use Rattle.round_laws.specs.Guesses.{EndedLaw, FoundLaw, StoppedLaw, EnoughLaw, OneSearchLaw};
 ghost use Rattle.round_laws.specs.Colours.{FastLaw, QuietLaw, RoundLaw, FastRoundLaw};
 ghost use Rattle.round_laws.specs.Stack.{RefuteLaw, PassLaw, CloseLaw, RowsLaw};
+
+pub use parts::{parting, renaming, resuming};
 
 /// Agreeing in a round is an equivalence, a correspondence keeps it and evens all counts, and
 /// refuted guesses have none.

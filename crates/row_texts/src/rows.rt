@@ -2,6 +2,7 @@
 
 use crate::fields::{Fields, RowFault};
 use crate::layouts::stream_of;
+use crate::repeated::push_repeated;
 use crate::sections::{Section, body_text, push_escaped_lines};
 use std::alloc::{AllocError, Global};
 use std::fs;
@@ -40,27 +41,42 @@ pub fn is_command(section: &Section<'_>) -> bool {
     matches!(section.word, b"command" | b"words")
 }
 
+// How a section's lines are read.
+#[derive(Clone, Copy, PartialEq, Eq)]
+enum Form {
+    Lines,
+    Escaped,
+    Repeated,
+}
+
+fn push_body(alloc: Global, out: &mut Vec<u8>, form: Form, body: &[&[u8]]) -> Result<(), RowFault> {
+    match form {
+        Form::Lines => Ok(body_text(out, body)?),
+        Form::Escaped => push_escaped_lines(out, body),
+        Form::Repeated => push_repeated(alloc, out, body),
+    }
+}
+
 /// The text of a section: the files that its line names, in the folder of the rows, then its body;
-/// where the line ends in `escaped`, the body's lines are one text with escapes.
+/// where the line ends in `escaped`, the body's lines are one text with escapes, and where it ends
+/// in `repeated` each of them stands for many.
 pub fn section_text<R: Files + AllocGlobal>(
     rt: &R,
     section: &Section<'_>,
 ) -> Result<Vec<u8>, RowFault> {
     let mut out = Vec::new(rt.alloc());
-    let mut is_escaped = false;
+    let mut form = Form::Lines;
     for word in section.rest.split(|b| *b == b' ') {
         if matches!(word, b"escaped") {
-            is_escaped = true;
+            form = Form::Escaped;
+        } else if matches!(word, b"repeated") {
+            form = Form::Repeated;
         } else if !word.is_empty() {
             let part = file_of(rt, word)?;
             out.extend_from_slice(&part)?;
         }
     }
-    if is_escaped {
-        push_escaped_lines(&mut out, section.body)?;
-    } else {
-        body_text(&mut out, section.body)?;
-    }
+    push_body(rt.alloc(), &mut out, form, section.body)?;
     Ok(out)
 }
 

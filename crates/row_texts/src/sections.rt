@@ -56,8 +56,8 @@ pub fn read_sections<'a>(
     Ok(out)
 }
 
-// A line without its indent of two blanks.
-fn outdented(line: &[u8]) -> &[u8] {
+/// A line without its indent of two blanks.
+pub fn outdented(line: &[u8]) -> &[u8] {
     match line {
         [b' ', b' ', behind @ ..] => behind,
         _ => line,

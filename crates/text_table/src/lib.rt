@@ -1,4 +1,4 @@
-//! A table of texts in order of first sight.
+//! A table of texts in order of first sight: an interner.
 #![tactic(auto)]
 
 mod table;

@@ -1,4 +1,3 @@
-pub mod Meeting
 pub mod Positions
 pub mod Scanning
 pub mod Walks

@@ -13,11 +13,12 @@ use Rattle.std.proofs.lemmas.List.Sorted.{All-permutation, IsPermutation-sym, Is
 use Rattle.std.proofs.lemmas.Map.Keys.{IsDistinct-IsPermutation, IsDistinct-from_apart, IsStrictlyIncreasing-from_distinct}
 use Rattle.std.proofs.lemmas.Option.{get_or_from_slice_get, slice_get_within}
 use Rattle.geo_base.specs.declared.shapes.Rect.{Rect}
-use Rattle.tile_index.specs.Windows.{IsFound, ArePositions, meets}
+use Rattle.tile_index.specs.Windows.{IsFound, ArePositions}
+use Rattle.geo_base.specs.Rects.{meets}
 use Rattle.tile_index.specs.declared.entries.Entry.{Entry}
 use Rattle.tile_index.specs.declared.entries.Stop.{Stop}
 use Rattle.tile_index.specs.Entries.{rect_at, rects_of, AreEntries, ArePlaced, hits}
-use Rattle.tile_index.proofs.Meeting.{meets_share, share_meets}
+use Rattle.geo_base.proofs.Meeting.{meets_share, share_meets}
 
 -- x is an element: by recursion
 abbrev pub IsOn : {A : Type 0} → List A → A → Type 0

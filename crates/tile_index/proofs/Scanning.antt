@@ -11,8 +11,9 @@ use Rattle.std.proofs.lemmas.List.FromFn.{length-range_with_len, get_or-range_wi
 use Rattle.std.proofs.lemmas.List.Kept.{IsStrictlyIncreasing-filter}
 use Rattle.std.proofs.lemmas.Option.{slice_get_within, slice_get-get_or, get_or_from_slice_get}
 use Rattle.geo_base.specs.declared.shapes.Rect.{Rect}
-use Rattle.tile_index.specs.Windows.{ArePositions, IsFound, meets}
-use Rattle.tile_index.proofs.Meeting.{meets_share, share_meets}
+use Rattle.tile_index.specs.Windows.{ArePositions, IsFound}
+use Rattle.geo_base.specs.Rects.{meets}
+use Rattle.geo_base.proofs.Meeting.{meets_share, share_meets}
 use Rattle.tile_index.proofs.Positions.{IsOn, contains_on, on_contains, on_range, range_more}
 
 abbrev pub zero_rect : Rect

@@ -7,12 +7,12 @@ use Rattle.std.proofs.lemmas.List.{map-append, take-take, take-append-drop, drop
 use Rattle.std.proofs.lemmas.List.Elements.{filter-append}
 use Rattle.std.proofs.lemmas.Option.{slice_get-get_or, slice_get_within, get_or_from_slice_get}
 use Rattle.geo_base.specs.declared.shapes.Rect.{Rect}
-use Rattle.tile_index.specs.Windows.{IsInside, meets, union}
+use Rattle.geo_base.specs.Rects.{IsInside, meets, bounding_box}
 use Rattle.tile_index.specs.declared.entries.Entry.{Entry}
 use Rattle.tile_index.specs.declared.tree.Node.{Node}
 use Rattle.tile_index.specs.Entries.{hits}
 use Rattle.tile_index.specs.Trees.{from_of, begin_of, HoldsAll, HoldsRange, IsNode, AreNodes, IsAbove, Grows, part}
-use Rattle.tile_index.proofs.Meeting.{inside_meets, inside_too, in_left, in_right}
+use Rattle.geo_base.proofs.Meeting.{inside_meets, inside_too, in_left, in_right}
 use Rattle.tile_index.proofs.Positions.{hit_more, hit_same}
 
 pub hits_append : (w : Rect) (xs ys : List Entry) → hits w (xs ++ ys) ≡ hits w xs ++ hits w ys
@@ -140,13 +140,13 @@ kept_all old mid new (a, is_a) (b, is_b) = (a ++ b, is_b ∙ ap (λ ns. ns ++ b)
 -- the rectangle around one entry more
 pub holds_more : (entries : List Entry) (i : ℕ) (d : Entry) (hull : Rect) → i < length entries
     → ((k : ℕ) (e : Entry) → k < i → slice_get entries k ≡ Some e → IsInside e.rect hull)
-    → (k : ℕ) (e : Entry) → k < i + 1 → slice_get entries k ≡ Some e → IsInside e.rect (union hull (get_or entries i d).rect)
+    → (k : ℕ) (e : Entry) → k < i + 1 → slice_get entries k ≡ Some e → IsInside e.rect (bounding_box hull (get_or entries i d).rect)
 holds_more entries i d hull lt old k e below there =
     elim (ℕ_discrete k i) [
       | yes same ↦
           let at_i : slice_get entries i ≡ Some e = subst (λ n. slice_get entries n ≡ Some e) same there in
           let is : get_or entries i d ≡ e = (let f : Some (get_or entries i d) ≡ Some e = sym (slice_get-get_or entries i d lt) ∙ at_i in cc) in
-          subst (λ (o : Entry). IsInside o.rect (union hull (get_or entries i d).rect)) is (in_right hull (get_or entries i d).rect)
+          subst (λ (o : Entry). IsInside o.rect (bounding_box hull (get_or entries i d).rect)) is (in_right hull (get_or entries i d).rect)
       | no ne ↦ inside_too e.rect hull _ (old k e (omega arith) there) (in_left hull (get_or entries i d).rect)
     ]
 
@@ -179,10 +179,10 @@ above_both entries from middle to old mid new late early next =
     }
 
 -- what holds the entries of two parts holds those of both
-pub holds_both : (entries : List Entry) (from middle to : ℕ) (early late : Rect) → HoldsRange entries from middle early → HoldsRange entries middle to late → HoldsRange entries from to (union early late)
+pub holds_both : (entries : List Entry) (from middle to : ℕ) (early late : Rect) → HoldsRange entries from middle early → HoldsRange entries middle to late → HoldsRange entries from to (bounding_box early late)
 holds_both entries from middle to early late a b k e low lt there = elim (cases_lt k middle) [
-  | inl before ↦ inside_too e.rect early (union early late) (a k e low before there) (in_left early late)
-  | inr after ↦ inside_too e.rect late (union early late) (b k e after lt there) (in_right early late)
+  | inl before ↦ inside_too e.rect early (bounding_box early late) (a k e low before there) (in_left early late)
+  | inr after ↦ inside_too e.rect late (bounding_box early late) (b k e after lt there) (in_right early late)
 ]
 
 -- a walk down to the i-th node has found what lies before it

@@ -4,7 +4,7 @@ use Rattle.std.specs.Prelude.{slice_get}
 use Rattle.std.specs.List.{All, filter, range_with_len}
 use Rattle.std.specs.List.Sorted.{IsPermutation}
 use Rattle.geo_base.specs.declared.shapes.Rect.{Rect}
-use Rattle.tile_index.specs.Windows.{meets}
+use Rattle.geo_base.specs.Rects.{meets}
 use Rattle.tile_index.specs.declared.entries.Entry.{Entry}
 use Rattle.tile_index.specs.declared.entries.Stop.{Stop}
 

@@ -4,7 +4,7 @@ use Rattle.std.specs.Prelude.{Some, None, length, slice_get}
 use Rattle.geo_base.specs.declared.shapes.Rect.{Rect}
 use Rattle.tile_index.specs.declared.entries.Entry.{Entry}
 use Rattle.tile_index.specs.declared.tree.Node.{Node}
-use Rattle.tile_index.specs.Windows.{IsInside}
+use Rattle.geo_base.specs.Rects.{IsInside}
 
 abbrev pub from_of : ℕ → Option Node → ℕ
 from_of end None = end

@@ -1,4 +1,5 @@
-//! Finds, of many rectangles, those that share a square with a window; looks at few others.
+//! Finds, of many rectangles, those that share a square with a window; looks at few others: a
+//! spatial index in the way of an R-tree.
 #![tactic(auto)]
 
 mod curve;

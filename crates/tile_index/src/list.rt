@@ -4,7 +4,6 @@ ghost use Rattle.std.specs.Prelude.{IfOk};
 ghost use Rattle.tile_index.specs.Windows.{ArePositions};
 
 use crate::entries::position_of;
-use crate::tree::meets;
 use geo_base::Rect;
 use std::alloc::{AllocError, Global};
 
@@ -16,7 +15,7 @@ pub fn positions_in(alloc: Global, rects: &[Rect], w: &Rect) -> Result<Vec<u32>,
 {
     let mut found = Vec::new(alloc);
     for i in 0..rects.len() {
-        if meets(&rects[i], w) {
+        if rects[i].meets(w) {
             found.push(position_of(i)?)?;
         }
     }

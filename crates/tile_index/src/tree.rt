@@ -5,7 +5,6 @@
 ghost use Rattle.std.specs.Prelude.{◌≡◌, ◌+◌, ◌-◌, ◌<◌, ◌≤◌, ◌++◌, IfOk, OnOk, length, map, []};
 ghost use Rattle.std.specs.Prelude.{take, drop};
 ghost use Rattle.std.specs.List.{filter};
-ghost use Rattle.tile_index.specs.Windows.{overlap, meets, union};
 ghost use Rattle.tile_index.specs.Entries.{hits};
 ghost use Rattle.tile_index.specs.Trees.{AreNodes, IsAbove, Grows, HoldsAll, begin_of, IsTree};
 ghost use Rattle.tile_index.specs.Trees.{IsPart, part, HoldsRange};
@@ -27,32 +26,6 @@ pub struct Node {
     pub skip: usize,
 }
 
-// Whether two ranges share a number, where each ends before its second.
-fn overlap(low: i64, high: i64, from: i64, to: i64) -> bool
-    ensures { result ≡ overlap low high from to }
-{
-    low.max(from) < high.min(to)
-}
-
-/// Whether two rectangles share a square.
-pub fn meets(a: &Rect, b: &Rect) -> bool
-    ensures { result ≡ meets a.now b.now }
-{
-    overlap(a.x1, a.x2, b.x1, b.x2) && overlap(a.y1, a.y2, b.y1, b.y2)
-}
-
-// The least rectangle that holds both.
-fn union(a: &Rect, b: &Rect) -> Rect
-    ensures { result ≡ union a.now b.now }
-{
-    Rect {
-        x1: a.x1.min(b.x1),
-        y1: a.y1.min(b.y1),
-        x2: a.x2.max(b.x2),
-        y2: a.y2.max(b.y2),
-    }
-}
-
 // The least rectangle that holds those of the entries.
 fn hull_of(entries: &[Entry]) -> Rect
     requires { 0 < length entries.now }
@@ -60,7 +33,7 @@ fn hull_of(entries: &[Entry]) -> Rect
 {
     let mut hull = entries[0].rect;
     for entry in entries {
-        hull = union(&hull, &entry.rect);
+        hull = hull.bounding_box(&entry.rect);
     }
     hull
 }
@@ -114,7 +87,7 @@ fn grow(
     let middle = from + (to - from) / 2;
     let late = grow(nodes, entries, middle, to)?;
     let early = grow(nodes, entries, from, middle)?;
-    let hull = union(&early, &late);
+    let hull = early.bounding_box(&late);
     push_node(nodes, entries, hull, from, to, skip)?;
     Ok(hull)
 }
@@ -136,7 +109,7 @@ fn push_hits(found: &mut Vec<u32>, entries: &[Entry], w: &Rect) -> Result<(), Al
     ensures { OnOk result (found.new.items ≡ found.old.items ++ hits w.now entries.now) }
 {
     for entry in entries {
-        if meets(&entry.rect, w) {
+        if entry.rect.meets(w) {
             found.push(entry.position)?;
         }
     }
@@ -172,7 +145,7 @@ pub fn hits(
     while 0 < i {
         i -= 1;
         let node = &nodes[i];
-        if !meets(&node.hull, w) {
+        if !node.hull.meets(w) {
             i = node.skip;
         } else if node.skip == i {
             push_under(&mut found, entries, node, w)?;

@@ -1,28 +1,26 @@
 -- Rectangles that touch, by their sides and by their squares.
-use Rattle.std.proofs.Common.{◌≡◌, ◌⊎◌, inl, inr, ℤ, pos, ◌+ℤ◌, ◌-ℤ◌, ◌≤ℤ◌, ◌<ℤ◌, int_le, int_lt, Bool, true, false, ◌&&◌, refl, sym, ap, arith}
+use Rattle.std.proofs.Common.{◌≡◌, ◌⊎◌, inl, inr, ℤ, pos, ◌+ℤ◌, ◌-ℤ◌, ◌≤ℤ◌, ◌<ℤ◌, int_lt, true, ◌&&◌, refl, sym, ap, arith}
 use Rattle.base_laws.proofs.Tests.{lt_from, lt_to, le_from, le_to}
-use Rattle.std.proofs.lemmas.Int.{ints, by_lt_z}
-use Rattle.std.proofs.lemmas.Bool.{false≢true, or_cases, and_parts, and_from, or_left, or_right}
+use Rattle.std.proofs.lemmas.Int.{ints, clamps, by_lt_z}
+use Rattle.std.specs.Int.{int_min, int_max}
+use Rattle.std.proofs.lemmas.Bool.{or_cases, and_parts, and_from, or_left, or_right}
 use Rattle.flat_layout.specs.Plane.{IsIn, IsNear}
 use Rattle.geo_base.specs.declared.shapes.Rect.{Rect}
 use Rattle.geo_base.specs.declared.shapes.Square.{Square}
-use Rattle.touching_pieces.specs.Touching.{AreTouching, overlaps, meets, is_rect, is_near, touches}
+use Rattle.touching_pieces.specs.Touching.{AreTouching, adjoin, is_near, touches}
+use Rattle.geo_base.specs.Rects.{is_rect, overlap}
 
-pub and_at : (b c r : Bool) → b ≡ true → r ≡ c → r ≡ (b && c)
-and_at true c r e f = f
-and_at false c r e f = absurd (false≢true e)
+overlap_of : (a b c d : ℤ) → overlap a b c d ≡ true → (a <ℤ d) × (c <ℤ b)
+overlap_of a b c d e = let h = lt_from (int_max a c) (int_min b d) e in (omega (arith, ints, clamps), omega (arith, ints, clamps))
 
-overlaps_of : (a b c d : ℤ) → overlaps a b c d ≡ true → (a <ℤ d) × (c <ℤ b)
-overlaps_of a b c d e = let h = and_parts (int_lt a d) (int_lt c b) e in (lt_from a d h.0, lt_from c b h.1)
+adjoin_of : (a b c d : ℤ) → adjoin a b c d ≡ true → (a ≤ℤ d) × (c ≤ℤ b)
+adjoin_of a b c d e = let h = le_from (int_max a c) (int_min b d) e in (omega (arith, ints, clamps), omega (arith, ints, clamps))
 
-meets_of : (a b c d : ℤ) → meets a b c d ≡ true → (a ≤ℤ d) × (c ≤ℤ b)
-meets_of a b c d e = let h = and_parts (int_le a d) (int_le c b) e in (le_from a d h.0, le_from c b h.1)
+overlap_to : (a b c d : ℤ) → a <ℤ b → c <ℤ d → a <ℤ d → c <ℤ b → overlap a b c d ≡ true
+overlap_to a b c d s t h g = lt_to (int_max a c) (int_min b d) (omega (arith, ints, clamps))
 
-overlaps_to : (a b c d : ℤ) → a <ℤ d → c <ℤ b → overlaps a b c d ≡ true
-overlaps_to a b c d h g = and_from (int_lt a d) (int_lt c b) (lt_to a d h) (lt_to c b g)
-
-meets_to : (a b c d : ℤ) → a ≤ℤ d → c ≤ℤ b → meets a b c d ≡ true
-meets_to a b c d h g = and_from (int_le a d) (int_le c b) (le_to a d h) (le_to c b g)
+adjoin_to : (a b c d : ℤ) → a <ℤ b → c <ℤ d → a ≤ℤ d → c ≤ℤ b → adjoin a b c d ≡ true
+adjoin_to a b c d s t h g = le_to (int_max a c) (int_min b d) (omega (arith, ints, clamps))
 
 -- a number that two spans share
 shared : (a b c d : ℤ) → a <ℤ b → c <ℤ d → a <ℤ d → c <ℤ b → (x : ℤ) × (a ≤ℤ x) × (x <ℤ b) × (c ≤ℤ x) × (x <ℤ d)
@@ -88,17 +86,17 @@ touching a b e =
     let ay = lt_from a.y1 a.y2 ra.1 in
     let bx = lt_from b.x1 b.x2 rb.0 in
     let by = lt_from b.y1 b.y2 rb.1 in
-    elim (or_cases (meets a.x1 a.x2 b.x1 b.x2 && overlaps a.y1 a.y2 b.y1 b.y2) (overlaps a.x1 a.x2 b.x1 b.x2 && meets a.y1 a.y2 b.y1 b.y2) h.0) [
+    elim (or_cases (adjoin a.x1 a.x2 b.x1 b.x2 && overlap a.y1 a.y2 b.y1 b.y2) (overlap a.x1 a.x2 b.x1 b.x2 && adjoin a.y1 a.y2 b.y1 b.y2) h.0) [
       | inl k ↦
-          let s = and_parts (meets a.x1 a.x2 b.x1 b.x2) (overlaps a.y1 a.y2 b.y1 b.y2) k in
-          let m = meets_of a.x1 a.x2 b.x1 b.x2 s.0 in
-          let o = overlaps_of a.y1 a.y2 b.y1 b.y2 s.1 in
+          let s = and_parts (adjoin a.x1 a.x2 b.x1 b.x2) (overlap a.y1 a.y2 b.y1 b.y2) k in
+          let m = adjoin_of a.x1 a.x2 b.x1 b.x2 s.0 in
+          let o = overlap_of a.y1 a.y2 b.y1 b.y2 s.1 in
           let y = shared a.y1 a.y2 b.y1 b.y2 ay by o.0 o.1 in
           across a b y.0 (spanned a.x1 a.x2 b.x1 b.x2 ax bx m.0 m.1) y.1 y.2 y.3 y.4
       | inr k ↦
-          let s = and_parts (overlaps a.x1 a.x2 b.x1 b.x2) (meets a.y1 a.y2 b.y1 b.y2) k in
-          let o = overlaps_of a.x1 a.x2 b.x1 b.x2 s.0 in
-          let m = meets_of a.y1 a.y2 b.y1 b.y2 s.1 in
+          let s = and_parts (overlap a.x1 a.x2 b.x1 b.x2) (adjoin a.y1 a.y2 b.y1 b.y2) k in
+          let o = overlap_of a.x1 a.x2 b.x1 b.x2 s.0 in
+          let m = adjoin_of a.y1 a.y2 b.y1 b.y2 s.1 in
           let x = shared a.x1 a.x2 b.x1 b.x2 ax bx o.0 o.1 in
           along a b x.0 (spanned a.y1 a.y2 b.y1 b.y2 ay by m.0 m.1) x.1 x.2 x.3 x.4
     ]
@@ -121,12 +119,12 @@ near_of : (a b : Rect) (p q : Square) → IsIn p a → IsIn q b → AreClose p q
 near_of a b p q (ax, ax', ay, ay') (bx, bx', by, by') h = elim h.close [
   | inl k ↦
       let k0 = k.0 in let k1 = k.1 in let k2 = k.2 in
-      or_left (meets a.x1 a.x2 b.x1 b.x2 && overlaps a.y1 a.y2 b.y1 b.y2) (overlaps a.x1 a.x2 b.x1 b.x2 && meets a.y1 a.y2 b.y1 b.y2)
-      (and_from (meets a.x1 a.x2 b.x1 b.x2) (overlaps a.y1 a.y2 b.y1 b.y2) (meets_to a.x1 a.x2 b.x1 b.x2 (omega (arith, ints)) (omega (arith, ints))) (overlaps_to a.y1 a.y2 b.y1 b.y2 (omega (arith, ints)) (omega (arith, ints))))
+      or_left (adjoin a.x1 a.x2 b.x1 b.x2 && overlap a.y1 a.y2 b.y1 b.y2) (overlap a.x1 a.x2 b.x1 b.x2 && adjoin a.y1 a.y2 b.y1 b.y2)
+      (and_from (adjoin a.x1 a.x2 b.x1 b.x2) (overlap a.y1 a.y2 b.y1 b.y2) (adjoin_to a.x1 a.x2 b.x1 b.x2 (omega (arith, ints)) (omega (arith, ints)) (omega (arith, ints)) (omega (arith, ints))) (overlap_to a.y1 a.y2 b.y1 b.y2 (omega (arith, ints)) (omega (arith, ints)) (omega (arith, ints)) (omega (arith, ints))))
   | inr k ↦
       let k0 = k.0 in let k1 = k.1 in let k2 = k.2 in
-      or_right (meets a.x1 a.x2 b.x1 b.x2 && overlaps a.y1 a.y2 b.y1 b.y2) (overlaps a.x1 a.x2 b.x1 b.x2 && meets a.y1 a.y2 b.y1 b.y2)
-      (and_from (overlaps a.x1 a.x2 b.x1 b.x2) (meets a.y1 a.y2 b.y1 b.y2) (overlaps_to a.x1 a.x2 b.x1 b.x2 (omega (arith, ints)) (omega (arith, ints))) (meets_to a.y1 a.y2 b.y1 b.y2 (omega (arith, ints)) (omega (arith, ints))))
+      or_right (adjoin a.x1 a.x2 b.x1 b.x2 && overlap a.y1 a.y2 b.y1 b.y2) (overlap a.x1 a.x2 b.x1 b.x2 && adjoin a.y1 a.y2 b.y1 b.y2)
+      (and_from (overlap a.x1 a.x2 b.x1 b.x2) (adjoin a.y1 a.y2 b.y1 b.y2) (overlap_to a.x1 a.x2 b.x1 b.x2 (omega (arith, ints)) (omega (arith, ints)) (omega (arith, ints)) (omega (arith, ints))) (adjoin_to a.y1 a.y2 b.y1 b.y2 (omega (arith, ints)) (omega (arith, ints)) (omega (arith, ints)) (omega (arith, ints))))
 ]
 
 rect_of : (a : Rect) (p : Square) → IsIn p a → is_rect a ≡ true

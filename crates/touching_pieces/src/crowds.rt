@@ -17,14 +17,9 @@ const RARE: usize = 8;
 
 // How far the rectangle goes within another, across and up.
 fn extent(rect: &Rect, within: &Rect) -> i64 {
-    let across = rect
-        .x2
-        .min(within.x2)
-        .saturating_sub(rect.x1.max(within.x1));
-    let up = rect
-        .y2
-        .min(within.y2)
-        .saturating_sub(rect.y1.max(within.y1));
+    let common = rect.common(within);
+    let across = common.x2.saturating_sub(common.x1);
+    let up = common.y2.saturating_sub(common.y1);
     across.saturating_add(up)
 }
 

@@ -58,10 +58,7 @@ pub const NOWHERE: Rect = Rect {
 pub fn grown(bounds: Rect, pieces: &[Piece]) -> Rect {
     let mut all = bounds;
     for piece in pieces {
-        all.x1 = all.x1.min(piece.rect.x1);
-        all.y1 = all.y1.min(piece.rect.y1);
-        all.x2 = all.x2.max(piece.rect.x2);
-        all.y2 = all.y2.max(piece.rect.y2);
+        all = all.bounding_box(&piece.rect);
     }
     all
 }
@@ -90,14 +87,14 @@ fn crossings(pieces: &[Piece], cut: &Cut) -> usize {
 // The middle line of what bounds the pieces within a rectangle that goes through fewer of them, and
 // through how many.
 fn least_cut(ones: &[Piece], others: &[Piece], within: &Rect) -> (Cut, usize) {
-    let all = grown(grown(NOWHERE, ones), others);
+    let all = grown(grown(NOWHERE, ones), others).common(within);
     let upright = Cut {
         axis: Axis::X,
-        at: middle(all.x1.max(within.x1), all.x2.min(within.x2)),
+        at: middle(all.x1, all.x2),
     };
     let level = Cut {
         axis: Axis::Y,
-        at: middle(all.y1.max(within.y1), all.y2.min(within.y2)),
+        at: middle(all.y1, all.y2),
     };
     let crossed = crossings(ones, &upright).saturating_add(crossings(others, &upright));
     let crossed_level = crossings(ones, &level).saturating_add(crossings(others, &level));

@@ -1,4 +1,5 @@
-//! Which rectangles touch, and what that joins, without comparing each with each.
+//! Which rectangles touch, and what that joins, without comparing each with each: connectivity of
+//! conductors by a sweep.
 #![tactic(auto)]
 
 mod conductors;

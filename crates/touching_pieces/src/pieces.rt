@@ -1,7 +1,8 @@
 //! Rectangles that belong to items, and whether two of them touch.
 
-ghost use Rattle.std.specs.Prelude.{◌≡◌, ◌↔◌, ◌&&◌, true};
-ghost use Rattle.touching_pieces.specs.Touching.{is_near, is_rect, meets, overlaps, touches};
+ghost use Rattle.std.specs.Prelude.{◌≡◌, ◌↔◌, ◌&&◌, int_le, int_lt, true};
+ghost use Rattle.touching_pieces.specs.Touching.{is_near, touches};
+ghost use Rattle.geo_base.specs.Rects.{is_rect};
 ghost use Rattle.touching_pieces.specs.Touching.{AreTouching};
 
 use geo_base::Rect;
@@ -14,60 +15,31 @@ pub struct Piece {
     pub item: u32,
 }
 
-fn overlaps_x(a: &Rect, b: &Rect) -> bool
-    ensures { result ≡ overlaps a.now.x1 a.now.x2 b.now.x1 b.now.x2 }
+// Whether what two rectangles have in common is a square or more high; it may have no width.
+fn is_beside(common: &Rect) -> bool
+    ensures { result ≡ (int_le common.now.x1 common.now.x2 && int_lt common.now.y1 common.now.y2) }
 {
-    a.x1 < b.x2 && b.x1 < a.x2
+    common.x1 <= common.x2 && common.y1 < common.y2
 }
 
-fn overlaps_y(a: &Rect, b: &Rect) -> bool
-    ensures { result ≡ overlaps a.now.y1 a.now.y2 b.now.y1 b.now.y2 }
+// Whether it is a square or more wide; it may have no height.
+fn is_over(common: &Rect) -> bool
+    ensures { result ≡ (int_lt common.now.x1 common.now.x2 && int_le common.now.y1 common.now.y2) }
 {
-    a.y1 < b.y2 && b.y1 < a.y2
-}
-
-fn meets_x(a: &Rect, b: &Rect) -> bool
-    ensures { result ≡ meets a.now.x1 a.now.x2 b.now.x1 b.now.x2 }
-{
-    a.x1 <= b.x2 && b.x1 <= a.x2
-}
-
-fn meets_y(a: &Rect, b: &Rect) -> bool
-    ensures { result ≡ meets a.now.y1 a.now.y2 b.now.y1 b.now.y2 }
-{
-    a.y1 <= b.y2 && b.y1 <= a.y2
-}
-
-fn is_rect(r: &Rect) -> bool
-    ensures { result ≡ is_rect r.now }
-{
-    r.x1 < r.x2 && r.y1 < r.y2
-}
-
-fn is_beside(a: &Rect, b: &Rect) -> bool
-    ensures { result ≡ (meets a.now.x1 a.now.x2 b.now.x1 b.now.x2
-        && overlaps a.now.y1 a.now.y2 b.now.y1 b.now.y2) }
-{
-    meets_x(a, b) && overlaps_y(a, b)
-}
-
-fn is_over(a: &Rect, b: &Rect) -> bool
-    ensures { result ≡ (overlaps a.now.x1 a.now.x2 b.now.x1 b.now.x2
-        && meets a.now.y1 a.now.y2 b.now.y1 b.now.y2) }
-{
-    overlaps_x(a, b) && meets_y(a, b)
+    common.x1 < common.x2 && common.y1 <= common.y2
 }
 
 fn is_near(a: &Rect, b: &Rect) -> bool
     ensures { result ≡ is_near a.now b.now }
 {
-    is_beside(a, b) || is_over(a, b)
+    let common = a.common(b);
+    is_beside(&common) || is_over(&common)
 }
 
 fn are_rects(a: &Rect, b: &Rect) -> bool
     ensures { result ≡ (is_rect a.now && is_rect b.now) }
 {
-    is_rect(a) && is_rect(b)
+    a.is_rect() && b.is_rect()
 }
 
 pub(crate) fn touches_by_sides(a: &Rect, b: &Rect) -> bool

@@ -1,7 +1,6 @@
 //! Booleans of sets, and the sets themselves.
 
 use crate::common::set_of;
-use edge_boolean::combine;
 use geo_base::{Op, Rect, Square};
 use rect_sets::RectSet;
 use std::alloc::{AllocError, Global};
@@ -47,7 +46,7 @@ fn two_squares_that_overlap(rt: HostRuntime) -> Result<(), Fail> {
     let a = set_of(alloc, &[rect!(0, 0, 10, 10)])?;
     let b = set_of(alloc, &[rect!(5, 5, 15, 15)])?;
     for (op, want) in &OVERLAPS {
-        let set = combine(alloc, &a, &b, *op)?;
+        let set = a.combined(alloc, &b, *op)?;
         assert!(rt; set.rects() == *want, "{op:?}");
     }
     Ok(())
@@ -93,7 +92,7 @@ fn comb_over_comb(rt: HostRuntime) -> Result<(), Fail> {
     let alloc = rt.alloc();
     let a = comb(alloc, true, rect!(0, -1, 200, 0))?;
     let b = comb(alloc, false, rect!(-1, 0, 0, 200))?;
-    let both = combine(alloc, &a, &b, Op::And)?;
+    let both = a.combined(alloc, &b, Op::And)?;
     assert!(rt; both.rects() == crossings(alloc)?.as_slice());
     Ok(())
 }
@@ -120,9 +119,9 @@ fn grid(alloc: Global, upright: bool) -> Result<RectSet, AllocError> {
 #[test]
 fn checkerboard(rt: HostRuntime) -> Result<(), Fail> {
     let alloc = rt.alloc();
-    let one = combine(alloc, &grid(alloc, true)?, &grid(alloc, false)?, Op::Xor)?;
+    let one = grid(alloc, true)?.combined(alloc, &grid(alloc, false)?, Op::Xor)?;
     assert!(rt; one.rects() == board(alloc)?.as_slice());
-    let whole = combine(alloc, &one, &set_of(alloc, &[rect!(0, 0, 64, 64)])?, Op::Or)?;
+    let whole = one.combined(alloc, &set_of(alloc, &[rect!(0, 0, 64, 64)])?, Op::Or)?;
     assert!(rt; whole.rects() == [rect!(0, 0, 64, 64)].as_slice());
     Ok(())
 }
@@ -170,7 +169,7 @@ fn holds(op: Op, first: bool, second: bool) -> bool {
 
 // Whether an operator on these rectangles gives the right squares, looked at one by one.
 fn is_right(alloc: Global, op: Op, first: &[Rect], second: &[Rect]) -> Result<bool, AllocError> {
-    let made = combine(alloc, &set_of(alloc, first)?, &set_of(alloc, second)?, op)?;
+    let made = set_of(alloc, first)?.combined(alloc, &set_of(alloc, second)?, op)?;
     for i in 0..74u8 {
         for j in 0..74u8 {
             let s = Square {

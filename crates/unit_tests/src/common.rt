@@ -5,8 +5,8 @@ ghost use Rattle.std.specs.List.{All};
 ghost use Rattle.geo_base.specs.Rects.{IsRect};
 ghost use Rattle.rect_sets.specs.Near.{IsNearSet};
 
-use geo_base::Rect;
-use rect_sets::{Edge, RectSet, Rule, sweep};
+use geo_base::{Op, Rect};
+use rect_sets::{Edge, RectSet, sweep};
 use std::alloc::{AllocError, Global};
 
 /// Whether the rectangle has a square.
@@ -69,6 +69,6 @@ pub fn swept(alloc: Global, r: Rect) -> Result<RectSet, AllocError>
         first: 1,
         second: 0,
     })?;
-    let set = sweep(alloc, edges, Rule::First)?;
+    let set = sweep(alloc, edges, Op::Or)?;
     Ok(set)
 }

@@ -1,7 +1,6 @@
 //! Small gates with their sizes or faults, parts of sets, and parts gathered from seeds.
 
 use crate::common::{near_part, set_of};
-use edge_boolean::combine;
 use gate_search::{Whole, gather_around};
 use gate_shapes::{Around, GateCause, GateForm, GateShape, least, parts, shape_of};
 use geo_base::{Op, Rect, Square};
@@ -17,8 +16,8 @@ fn rect(x1: i64, y1: i64, x2: i64, y2: i64) -> Rect {
 fn judged(alloc: Global, active: &[Rect], poly: &[Rect]) -> Result<Vec<GateShape>, AllocError> {
     let active = set_of(alloc, active)?;
     let poly = set_of(alloc, poly)?;
-    let gate = combine(alloc, &active, &poly, Op::And)?;
-    let sd = combine(alloc, &active, &poly, Op::Not)?;
+    let gate = active.combined(alloc, &poly, Op::And)?;
+    let sd = active.combined(alloc, &poly, Op::Not)?;
     let none = RectSet::empty(alloc);
     let around = Around {
         ends: &sd,

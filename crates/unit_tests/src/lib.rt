@@ -2,7 +2,7 @@
 //! numbers and the outside; sets of unit squares, their Booleans and motions, fills, flat, kept and
 //! local squares on small hierarchies, classes of links, and gates' shapes; layout streams, with the
 //! generated chip, by lengths and checksums of texts that another program wrote; rule files with
-//! their whole rule set, each fault with its line; netlist texts, read and written.
+//! their whole rule set.
 #![tactic(auto)]
 
 #[cfg(test)]
@@ -51,10 +51,6 @@ mod rule_files;
 mod rule_further;
 #[cfg(test)]
 mod rule_shown;
-#[cfg(test)]
-mod spice_long;
-#[cfg(test)]
-mod spice_read;
 #[cfg(test)]
 mod streams;
 #[cfg(test)]

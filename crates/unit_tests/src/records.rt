@@ -1,10 +1,8 @@
-//! What no clause says: streams and their libraries or faults.
+//! What no clause says: streams and their libraries.
 
 ghost use Rattle.std.specs.Prelude.{◌≤◌, length};
 
-use crate::streams::{
-    BOUNDARY, CELL, END, FAULTS, FULL, HEAD, KLAYOUT, PATH, PLAIN, STORED, bytes,
-};
+use crate::streams::{BOUNDARY, CELL, END, FULL, HEAD, KLAYOUT, PATH, PLAIN, STORED, bytes};
 use crate::written::written;
 use gds_elements::{GdsFault, LibraryReader, read_library};
 use gds_records::{kinds, write_record};
@@ -195,112 +193,6 @@ fn header(rt: HostRuntime) -> Result<(), Fail> {
     assert!(rt; library.version == [0x02, 0x58]);
     assert!(rt; library.dates == [0; 24]);
     assert!(rt; Some(library.units.as_slice()) == stored.get(44..60));
-    Ok(())
-}
-
-/// The number of a stream's fault, its record and its offset.
-type Place = (u8, u64, u64);
-
-fn fault(alloc: Global, stream: &[u8]) -> Option<Place> {
-    match read_library(alloc, stream) {
-        Err(
-            GdsFault::Bad {
-                number,
-                index,
-                offset,
-            },
-        ) => Some((number, index, offset)),
-        _ => None,
-    }
-}
-
-// The bytes with others from a place on.
-fn with_bytes(stream: &mut [u8], place: usize, others: &[u8]) {
-    for (old, new) in stream.iter_mut().skip(place).zip(others.iter()) {
-        *old = *new;
-    }
-}
-
-/// How many bytes of the stored stream there are, bytes in it that are others from a place on, and
-/// the fault.
-static CHANGED: [(usize, usize, &[u8], Place); 6] = [
-    (120, 0, &[], (1, 9, 110)),
-    (226, 0, &[], (1, 17, 226)),
-    (0, 0, &[], (1, 0, 0)),
-    // UNITS with a zero, a kind of record that there isn't, a slanted edge.
-    (230, 52, &[0; 8], (13, 3, 40)),
-    (230, 164, &[0x7F], (3, 12, 162)),
-    (230, 201, &[16], (6, 14, 174)),
-];
-
-#[test]
-fn changed_streams(rt: HostRuntime) -> Result<(), Fail> {
-    let alloc = rt.alloc();
-    for (length, place, others, wanted) in &CHANGED {
-        let mut stream = bytes(alloc, &[STORED])?;
-        with_bytes(&mut stream, *place, others);
-        let found = fault(alloc, stream.get(..*length).unwrap_or(&[]));
-        assert!(rt; found == Some(*wanted));
-    }
-    Ok(())
-}
-
-#[test]
-fn first_faults(rt: HostRuntime) -> Result<(), Fail> {
-    let alloc = rt.alloc();
-    for (name, text, number, index, offset) in &FAULTS {
-        let found = fault(alloc, &bytes(alloc, &[HEAD, CELL, *text])?);
-        assert!(rt; found == Some((*number, *index, *offset)), "{name}");
-    }
-    Ok(())
-}
-
-/// Streams, and the faults of their last records.
-static HEADERS: [(&[&str], Place); 17] = [
-    (&["00060003 0258"], (5, 0, 0)),
-    (&["00080002 02580258"], (5, 0, 0)),
-    (&[BGNLIB], (4, 0, 0)),
-    (&[HEADER, HEADER], (4, 1, 6)),
-    (
-        &[
-            HEADER,
-            "001A0102 00000000000000000000000000000000000000000000",
-        ],
-        (5, 1, 6),
-    ),
-    (&[HEADER, LIBNAME], (4, 1, 6)),
-    (&[HEADER, BGNLIB, "00060202 4C00"], (5, 2, 34)),
-    (&[HEADER, BGNLIB, UNITS], (4, 2, 34)),
-    (&[HEADER, BGNLIB, LIBNAME, LIBNAME], (4, 3, 40)),
-    // Behind UNITS none of the options may stand.
-    (&[HEAD, "00041F06"], (4, 4, 60)),
-    (&[HEAD, "00042006"], (4, 4, 60)),
-    (&[HEAD, "00042202"], (4, 4, 60)),
-    (&[HEAD, "00042306"], (4, 4, 60)),
-    (&[HEAD, "00043602"], (4, 4, 60)),
-    (&[HEAD, "00043706"], (4, 4, 60)),
-    (&[HEAD, "00043800"], (4, 4, 60)),
-    // A reference that is turned by 45 degrees.
-    (
-        &[
-            HEAD,
-            CELL,
-            "00040A00 00061206 4200 00061A01 0000 000C1C05 422D000000000000 000C1003 00000000 \
-            00000000 00041100",
-            END,
-        ],
-        (10, 9, 110),
-    ),
-];
-
-// What stands before the cells, with the fault of its last record.
-#[test]
-fn faulty_headers(rt: HostRuntime) -> Result<(), Fail> {
-    let alloc = rt.alloc();
-    for (texts, wanted) in &HEADERS {
-        let found = fault(alloc, &bytes(alloc, texts)?);
-        assert!(rt; found == Some(*wanted), "{texts:?}");
-    }
     Ok(())
 }
 

@@ -9,7 +9,7 @@ use Rattle.flat_layout.specs.Nets.{Tables}
 use Rattle.net_phase.specs.Elements.{AreElements}
 use Rattle.net_walk.specs.Walk.{place_of}
 use Rattle.net_walk.specs.declared.cells.Element.{Element}
-use Rattle.view_laws.specs.Shown.{Called}
+use Rattle.view_shapes.specs.ReadLaws.{Called}
 use Rattle.view_drawing.specs.Calls.{called_motions, has_circuit}
 use Rattle.view_drawing.specs.Far.{Call, HasFarCall, ReachesFar}
 use Rattle.view_drawing.specs.declared.source.Source.{Source}

@@ -5,3 +5,5 @@ pub mod Marking
 pub mod Reading
 pub mod Fars
 pub mod Bounding
+mod Listing
+mod Covering

@@ -27,7 +27,7 @@ use Rattle.rule_layers.specs.Meaning.{wiring_of}
 use Rattle.rule_text.specs.Rules.{Rules}
 use Rattle.table_laws.proofs.Tabled.{reached_under}
 use Rattle.table_laws.proofs.Tabled as tabled
-use Rattle.view_nets.specs.Shown.{TellsNets}
+use Rattle.view_drawing.specs.Shown.{TellsNets}
 use Rattle.view_drawing.specs.Drawn.{drawn_in, items_in}
 use Rattle.view_drawing.proofs.Marking.{drawn_is}
 

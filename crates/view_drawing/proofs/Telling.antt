@@ -17,7 +17,7 @@ use Rattle.plain_netlist.specs.Netlist.{Circuit}
 use Rattle.spice_text.specs.Needs.{first_seen}
 use Rattle.text_table.specs.Texts.{has_text, place_of, with_text}
 use Rattle.view_drawing.specs.Numbers.{left_if, spread}
-use Rattle.view_nets.specs.Shown.{TellsNets}
+use Rattle.view_drawing.specs.Shown.{TellsNets}
 
 -- ---- numbers spread over marks
 

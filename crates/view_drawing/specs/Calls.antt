@@ -9,7 +9,7 @@ use Rattle.flat_layout.specs.Pins.{CellPins}
 use Rattle.geo_base.specs.declared.motion.Motion.{Motion}
 use Rattle.net_walk.specs.declared.cells.Element.{Element}
 use Rattle.plain_netlist.specs.Netlist.{Circuit}
-use Rattle.view_laws.specs.Shown.{Called}
+use Rattle.view_shapes.specs.ReadLaws.{Called}
 
 abbrev pub is_there : Option Circuit → Bool
 is_there None = false

@@ -21,11 +21,11 @@ use Rattle.plain_netlist.specs.Netlist.{Circuit}
 use Rattle.rule_layers.specs.Meaning.{wiring_of}
 use Rattle.rule_text.specs.Reaches.{MOST_REACH}
 use Rattle.rule_text.specs.Seen.{rules_seen}
-use Rattle.view_laws.specs.Shown.{Called}
+use Rattle.view_shapes.specs.ReadLaws.{Called}
 use Rattle.geo_base.specs.declared.motion.Motion.{Motion}
 use Rattle.view_netlist.specs.Drawing.{Drawn}
 use Rattle.view_netlist.specs.declared.drawing.Shape.{Shape}
-use Rattle.view_nets.specs.Shown.{AreNetsDrawn}
+use Rattle.view_drawing.specs.Shown.{AreNetsDrawn}
 use Rattle.view_shapes.specs.Shown.{called_by}
 use Rattle.view_drawing.specs.Calls.{AreCallsDrawn, called_in, has_circuit}
 use Rattle.view_drawing.specs.Devices.{Area, ArePlaced}

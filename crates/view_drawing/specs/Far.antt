@@ -10,7 +10,7 @@ use Rattle.geo_base.specs.declared.motion.Motion.{Motion}
 use Rattle.geo_base.specs.declared.shapes.Point.{Point}
 use Rattle.geo_base.specs.declared.shapes.Rect.{Rect}
 use Rattle.net_walk.specs.declared.cells.Element.{Element}
-use Rattle.view_laws.specs.Shown.{Called}
+use Rattle.view_shapes.specs.ReadLaws.{Called}
 use Rattle.view_netlist.specs.Drawing.{IsSmallPoint, IsSmallShift}
 use Rattle.view_shapes.specs.Shown.{ShowsFar}
 use Rattle.view_words.specs.Numbers.{IsSmallRect}

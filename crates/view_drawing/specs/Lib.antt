@@ -4,3 +4,5 @@ pub mod Calls
 pub mod Drawn
 pub mod Far
 pub mod Placed
+pub mod Nets
+pub mod Shown

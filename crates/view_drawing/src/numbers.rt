@@ -7,7 +7,7 @@ ghost use Rattle.plain_netlist.specs.Netlist.{Circuit};
 ghost use Rattle.spice_text.specs.Needs.{first_seen};
 ghost use Rattle.text_table.specs.Texts.{place_of};
 ghost use Rattle.view_drawing.specs.Numbers.{left_if, next_if, spread};
-ghost use Rattle.view_nets.specs.Shown.{TellsNets};
+ghost use Rattle.view_drawing.specs.Shown.{TellsNets};
 
 use circuit_phase::drawn_names;
 use deep_tables::CellPins;

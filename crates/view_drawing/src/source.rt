@@ -12,7 +12,7 @@ ghost use Rattle.rule_layers.specs.Meaning.{wiring_of};
 ghost use Rattle.rule_text.specs.Seen.{rules_seen};
 ghost use Rattle.rule_text.specs.Sound.{IsSound};
 ghost use Rattle.view_netlist.specs.Drawing.{AreSmallShapes, IsSmallDrawing, plain_drawing};
-ghost use Rattle.view_nets.specs.Nets.{list_at};
+ghost use Rattle.view_drawing.specs.Nets.{list_at};
 ghost use Rattle.view_shapes.specs.Shown.{called_by};
 ghost use Rattle.view_drawing.specs.Devices.{AddsRegions, AreSmallRegions, areas_of};
 ghost use Rattle.view_drawing.specs.Drawn.{AreAllThere, AreCellNetsDrawn, AreListsOf, IsCellDrawn};
@@ -22,6 +22,7 @@ ghost use Rattle.view_shapes.specs.Shown.{ShowsFar};
 
 use crate::called::called_marks;
 use crate::calls::call_motions;
+use crate::circuit_shapes;
 use crate::devices::place_devices;
 use crate::numbers::net_numbers;
 use crate::placed::{Placed, elements_at};
@@ -37,7 +38,6 @@ use net_walk::Element;
 use rule_text::RuleSet;
 use std::alloc::{AllocError, Global};
 use view_netlist::{Drawing, Shape};
-use view_nets::circuit_shapes;
 use view_shapes::ShowFault;
 
 /// What was found for the cells of a layout.

@@ -1,6 +1,6 @@
 //! The section of partners.
 
-ghost use Rattle.std.specs.Prelude.{◌≡◌, ◌++◌, [], IfOk, OnOk, get_or, map, slice_get};
+ghost use Rattle.std.specs.Prelude.{◌≡◌, ◌++◌, [], IfOk, OnOk, map, slice_get};
 ghost use Rattle.std.specs.Option.{option_map};
 ghost use Rattle.match_types.specs.Plain.{plain_answer};
 ghost use Rattle.net_model.specs.Rows.{plain_circuit};
@@ -8,9 +8,9 @@ ghost use Rattle.view_cross.specs.Matched.{apart_rows};
 ghost use Rattle.view_cross.specs.Pair.{pair_text};
 ghost use Rattle.view_cross.specs.Whole.{counts_of};
 ghost use Rattle.view_cross.specs.declared.rows.Mark.TheVariants.{Unmatched};
-ghost use Rattle.view_file.specs.Cross.{all_texts, answered_both, cross_text, left_texts, lists_of};
-ghost use Rattle.view_file.specs.Cross.{log_at, logs_of, mark_of, no_counts, pair_texts, proposed};
-ghost use Rattle.view_file.specs.Cross.{right_texts, rows_of};
+ghost use Rattle.view_file.specs.Cross.{all_texts, left_texts, lists_of, log_at, logs_of, mark_of};
+ghost use Rattle.view_file.specs.Cross.{no_counts, proposed, right_texts, rows_of};
+ghost use Rattle.view_file.specs.Shown.{answered_at, answers_in, pairs_from, shown_text};
 
 use job_graph::{Reads, Results};
 use list_base::number;
@@ -20,6 +20,18 @@ use net_names::Name;
 use std::alloc::{AllocError, Global};
 use view_cross::{Counts, Mark, Row, apart_rows, matched_rows, push_pair};
 use view_netlist::name_at;
+
+/// What a database shows of two netlists: the circuits of both, by pair; with each left one the
+/// lines that the browser shows; the rows of the pairs, which stand for those that don't match, and
+/// past the last of which each node is alone; and the answers, without which none has a partner.
+#[derive(Clone, Copy)]
+pub struct Shown<'a, 'b> {
+    pub lefts: &'a [Circuit],
+    pub rights: &'a [Circuit],
+    pub logs: &'b [Vec<Vec<u8>>],
+    pub proposals: &'b [Vec<Row>],
+    pub answers: Option<&'a Results<Answer>>,
+}
 
 fn counts_of(circuit: &Circuit) -> Result<Counts, AllocError>
     ensures { IfOk result (λ c. c ≡ counts_of (plain_circuit circuit.now)) }
@@ -123,58 +135,34 @@ fn proposal_at(proposals: &[Vec<Row>], k: u32) -> Option<&[Row]>
     }
 }
 
-// A pair of circuits; nothing where a side has none.
-fn push_answered(
-    alloc: Global,
-    out: &mut Vec<u8>,
-    name: &[u8],
-    log: &[Vec<u8>],
-    left: Option<&Circuit>,
-    right: Option<&Circuit>,
-    proposal: Option<&[Row]>,
-    answer: &Answer,
-) -> Result<(), AllocError>
-    ensures { OnOk result (out.new.items ≡ out.old.items ++ answered_both name.now
-        (map (λ line. line.items) log.now) (option_map (λ c. plain_circuit c.now) left.entry)
-        (option_map (λ c. plain_circuit c.now) right.entry)
-        (option_map (λ rows. rows.now) proposal.entry) (plain_answer answer.now)) }
-{
-    let Some(a) = left else {
-        return Ok(());
-    };
-    let Some(b) = right else {
-        return Ok(());
-    };
-    let rows = rows_of(alloc, a, b, proposal, answer)?;
-    let mark = mark_of(answer);
-    push_pair(alloc, out, name, b.name.bytes(), mark, log, &rows)
-}
-
+// The pair of a number, with its answer; nothing where a side has no circuit of it.
 fn push_numbered(
     alloc: Global,
     out: &mut Vec<u8>,
     names: &[Name],
-    logs: &[Vec<Vec<u8>>],
-    lefts: &[Circuit],
-    rights: &[Circuit],
-    proposals: &[Vec<Row>],
+    shown: &Shown<'_, '_>,
     k: u32,
     answer: &Answer,
 ) -> Result<(), AllocError>
-    ensures { OnOk result (out.new.items ≡ out.old.items ++ answered_both
-        (get_or names.now k []) (log_at (logs_of logs.now) k)
-        (slice_get (map plain_circuit lefts.now) k) (slice_get (map plain_circuit rights.now) k)
-        (slice_get (lists_of proposals.now) k) (plain_answer answer.now)) }
+    ensures { OnOk result (out.new.items ≡ out.old.items ++ answered_at names.now shown.now k
+        (plain_answer answer.now)) }
 {
-    push_answered(
+    let Some(a) = circuit_at(shown.lefts, k) else {
+        return Ok(());
+    };
+    let Some(b) = circuit_at(shown.rights, k) else {
+        return Ok(());
+    };
+    let rows = rows_of(alloc, a, b, proposal_at(shown.proposals, k), answer)?;
+    let (name, log) = (name_at(names, k), log_at(shown.logs, k));
+    push_pair(
         alloc,
         out,
-        name_at(names, k),
-        log_at(logs, k),
-        circuit_at(lefts, k),
-        circuit_at(rights, k),
-        proposal_at(proposals, k),
-        answer,
+        name,
+        b.name.bytes(),
+        mark_of(answer),
+        log,
+        &rows,
     )
 }
 
@@ -183,20 +171,16 @@ fn push_answers(
     alloc: Global,
     out: &mut Vec<u8>,
     names: &[Name],
-    logs: &[Vec<Vec<u8>>],
-    lefts: &[Circuit],
-    rights: &[Circuit],
-    proposals: &[Vec<Row>],
+    shown: &Shown<'_, '_>,
     answers: &Results<Answer>,
 ) -> Result<(), AllocError>
-    ensures { OnOk result (out.new.items ≡ out.old.items ++ pair_texts names.now
-        (logs_of logs.now) (map plain_circuit lefts.now) (map plain_circuit rights.now)
-        (lists_of proposals.now) 0 (map plain_answer answers.now)) }
+    ensures { OnOk result (out.new.items ≡ out.old.items ++ pairs_from names.now shown.now 0
+        (map plain_answer answers.now)) }
 {
     let count = number(answers.len())?;
     'pairs: for k in 0..count {
         let answer = answers.get(k);
-        push_numbered(alloc, out, names, logs, lefts, rights, proposals, k, answer)?;
+        push_numbered(alloc, out, names, shown, k, answer)?;
     }
     Ok(())
 }
@@ -263,45 +247,35 @@ fn push_all(
     alloc: Global,
     out: &mut Vec<u8>,
     names: &[Name],
-    logs: &[Vec<Vec<u8>>],
-    lefts: &[Circuit],
-    rights: &[Circuit],
-    proposals: &[Vec<Row>],
-    answers: Option<&Results<Answer>>,
+    shown: &Shown<'_, '_>,
 ) -> Result<(), AllocError>
     ensures { OnOk result (out.new.items ≡ out.old.items ++ all_texts names.now
-        (logs_of logs.now) (map plain_circuit lefts.now) (map plain_circuit rights.now)
-        (lists_of proposals.now) (option_map (λ found. map plain_answer found.now) answers.entry)) }
+        (logs_of shown.now.logs.now) (map plain_circuit shown.now.lefts.now)
+        (map plain_circuit shown.now.rights.now) (lists_of shown.now.proposals.now)
+        (answers_in shown.now)) }
 {
-    match answers {
-        Some(found) => push_answers(alloc, out, names, logs, lefts, rights, proposals, found),
+    match shown.answers {
+        Some(found) => push_answers(alloc, out, names, shown, found),
         None => {
-            push_lefts(alloc, out, names, logs, lefts)?;
-            push_rights(alloc, out, rights)
+            push_lefts(alloc, out, names, shown.logs, shown.lefts)?;
+            push_rights(alloc, out, shown.rights)
         }
     }
 }
 
 /// Appends the section of partners: each pair of circuits with its answer and the partners of its
 /// nodes, or, where there are no answers, each circuit alone. `names` are those of the layout's
-/// circuits in its section; `logs` the lines that the browser shows with them; `proposals` the rows
-/// of the pairs that don't match, in which past the last each node is alone. Linear in the text,
-/// but for the pins of matches. An `Err` is want of memory, or 2^32 of a kind.
+/// circuits in its section. Linear in the text, but for the pins of matches. An `Err` is want of
+/// memory, or 2^32 of a kind.
 pub fn push_cross(
     alloc: Global,
     out: &mut Vec<u8>,
     names: &[Name],
-    logs: &[Vec<Vec<u8>>],
-    lefts: &[Circuit],
-    rights: &[Circuit],
-    proposals: &[Vec<Row>],
-    answers: Option<&Results<Answer>>,
+    shown: &Shown<'_, '_>,
 ) -> Result<(), AllocError>
-    ensures { OnOk result (out.new.items ≡ out.old.items ++ cross_text names.now
-        (logs_of logs.now) (map plain_circuit lefts.now) (map plain_circuit rights.now)
-        (lists_of proposals.now) (option_map (λ found. map plain_answer found.now) answers.entry)) }
+    ensures { OnOk result (out.new.items ≡ out.old.items ++ shown_text names.now shown.now) }
 {
     out.extend_from_slice(b"\nZ(")?;
-    push_all(alloc, out, names, logs, lefts, rights, proposals, answers)?;
+    push_all(alloc, out, names, shown)?;
     out.extend_from_slice(b"\n)\n")
 }

@@ -8,6 +8,7 @@ mod layers;
 mod layout;
 mod regions;
 
+pub use cross::Shown;
 pub use file::database;
 pub use layout::Picture;
 pub use regions::Region;

@@ -9,5 +9,5 @@ mod page;
 mod places;
 mod remarks;
 
-pub use page::push_page;
+pub use page::{Book, push_page};
 pub use places::Places;

@@ -1,12 +1,12 @@
 //! The page of all pairs.
 
-ghost use Rattle.std.specs.Prelude.{◌≡◌, ◌++◌, IfOk, OnOk, Some, map, slice_get};
+ghost use Rattle.std.specs.Prelude.{◌≡◌, ◌++◌, IfOk, OnOk, map, slice_get};
 ghost use Rattle.std.specs.Option.{option_map};
 ghost use Rattle.net_model.specs.Rows.{plain_circuit};
 ghost use Rattle.spice_text.specs.Written.{Adds, AreOneByOne, AreTexts};
 ghost use Rattle.view_page.specs.Made.{book_of};
-ghost use Rattle.view_page.specs.Page.{IsNumbered, IsPage, IsPairText, IsPlaced, IsRowText};
-ghost use Rattle.view_page.specs.Page.{book, headed, heading, right_names};
+ghost use Rattle.view_page.specs.Page.{IsNumbered, IsPage, IsPairText, IsRowText, headed, heading};
+ghost use Rattle.view_page.specs.Page.{right_names};
 ghost use Rattle.view_page.specs.Told.{told_by};
 
 use crate::names::name_at;
@@ -83,16 +83,15 @@ fn push_pair(
     push_headed(out, name, q.right.name.bytes(), &lines)
 }
 
-/// What the page is made from: the unit in picometres, the names of the layout's cells, those of
-/// the schematic's circuits, the circuits of both sides by pair, the places of the left nodes.
+/// What the page is made from: the unit in picometres, the names of the layout's cells, the circuits
+/// of both sides by pair, the places of the left ones' nodes.
 #[derive(Clone, Copy)]
-struct Book<'a> {
-    unit: u32,
-    names: &'a [Name],
-    right_names: &'a [Name],
-    lefts: &'a [Circuit],
-    rights: &'a [Circuit],
-    places: &'a [Places],
+pub struct Book<'a> {
+    pub unit: u32,
+    pub names: &'a [Name],
+    pub lefts: &'a [Circuit],
+    pub rights: &'a [Circuit],
+    pub places: &'a [Places],
 }
 
 fn circuit_at(circuits: &[Circuit], k: u32) -> Option<&Circuit>
@@ -114,75 +113,38 @@ fn places_at(places: &[Places], k: u32) -> Option<&Places>
     }
 }
 
-fn push_placed(
+// The pair of a number; nothing where it has no circuits or no places. `others` are the names of the
+// circuits of the schematic.
+fn push_numbered(
     alloc: Global,
     out: &mut Vec<u8>,
     b: Book<'_>,
+    others: &[Name],
     k: u32,
-    left: &Circuit,
-    right: &Circuit,
-    places: &Places,
     rows: &[Row],
 ) -> Result<(), AllocError>
-    requires { b.right_names.now ≡ right_names (map plain_circuit b.rights.now) }
-    ensures { OnOk result (Adds (IsPlaced (book_of b.entry) k (Some (plain_circuit left.now))
-        (Some (plain_circuit right.now)) (Some places.now) rows.now) out.old.items out.new.items) }
+    requires { others.now ≡ right_names (map plain_circuit b.rights.now) }
+    ensures { OnOk result (Adds (IsNumbered (book_of b.entry) k rows.now) out.old.items
+        out.new.items) }
 {
+    let Some(left) = circuit_at(b.lefts, k) else {
+        return Ok(());
+    };
+    let Some(right) = circuit_at(b.rights, k) else {
+        return Ok(());
+    };
+    let Some(places) = places_at(b.places, k) else {
+        return Ok(());
+    };
     let q = Pair {
         unit: b.unit,
         left_names: b.names,
-        right_names: b.right_names,
+        right_names: others,
         left,
         right,
         places,
     };
     push_pair(alloc, out, q, name_at(b.names, k), rows)
-}
-
-fn push_found(
-    alloc: Global,
-    out: &mut Vec<u8>,
-    b: Book<'_>,
-    k: u32,
-    left: Option<&Circuit>,
-    right: Option<&Circuit>,
-    places: Option<&Places>,
-    rows: &[Row],
-) -> Result<(), AllocError>
-    requires { b.right_names.now ≡ right_names (map plain_circuit b.rights.now) }
-    ensures { OnOk result (Adds (IsPlaced (book_of b.entry) k
-        (option_map (λ c. plain_circuit c.now) left.entry)
-        (option_map (λ c. plain_circuit c.now) right.entry) (option_map (λ p. p.now) places.entry)
-        rows.now) out.old.items out.new.items) }
-{
-    match left {
-        Some(a) => match right {
-            Some(c) => match places {
-                Some(p) => push_placed(alloc, out, b, k, a, c, p, rows),
-                None => Ok(()),
-            },
-            None => Ok(()),
-        },
-        None => Ok(()),
-    }
-}
-
-// The pair of a number; nothing where it has no circuits or no places.
-fn push_numbered(
-    alloc: Global,
-    out: &mut Vec<u8>,
-    b: Book<'_>,
-    k: u32,
-    rows: &[Row],
-) -> Result<(), AllocError>
-    requires { b.right_names.now ≡ right_names (map plain_circuit b.rights.now) }
-    ensures { OnOk result (Adds (IsNumbered (book_of b.entry) k rows.now) out.old.items
-        out.new.items) }
-{
-    let left = circuit_at(b.lefts, k);
-    let right = circuit_at(b.rights, k);
-    let places = places_at(b.places, k);
-    push_found(alloc, out, b, k, left, right, places, rows)
 }
 
 // The names of circuits.
@@ -202,9 +164,10 @@ fn push_pairs(
     alloc: Global,
     out: &mut Vec<u8>,
     b: Book<'_>,
+    others: &[Name],
     rows: &[Vec<Row>],
 ) -> Result<(), AllocError>
-    requires { b.right_names.now ≡ right_names (map plain_circuit b.rights.now) }
+    requires { others.now ≡ right_names (map plain_circuit b.rights.now) }
     ensures { OnOk result (Adds (AreTexts (IsNumbered (book_of b.entry)) 0
         (map (λ list. list.items) rows.now)) out.old.items out.new.items) }
 {
@@ -212,7 +175,7 @@ fn push_pairs(
     let mut k = 0;
     let mut rest = rows;
     'pairs: while let [list, more @ ..] = rest {
-        push_numbered(alloc, out, b, k, list)?;
+        push_numbered(alloc, out, b, others, k, list)?;
         k += 1;
         rest = more;
     }
@@ -220,33 +183,19 @@ fn push_pairs(
 }
 
 /// Appends the page: for each pair of circuits, by number, the lines of its rows under its name, or
-/// nothing where there are none. `unit` is the database unit in picometres, `names` those of the
-/// layout's cells, `places` those of the left circuits' nodes; `rows` is the proposal of partners.
-/// Linear in the text, but for nets that don't match: for each the names of its circuits are gone
-/// through. The error is want of memory.
+/// nothing where there are none. `rows` is the proposal of partners. Linear in the text, but for
+/// nets that don't match: for each the names of its circuits are gone through. The error is want of
+/// memory.
 pub fn push_page(
     alloc: Global,
     out: &mut Vec<u8>,
-    unit: u32,
-    names: &[Name],
-    lefts: &[Circuit],
-    rights: &[Circuit],
+    b: Book<'_>,
     rows: &[Vec<Row>],
-    places: &[Places],
 ) -> Result<(), AllocError>
-    ensures { OnOk result (Adds (IsPage (book unit names.now (map plain_circuit lefts.now)
-        (map plain_circuit rights.now) places.now) (map (λ list. list.items) rows.now))
+    ensures { OnOk result (Adds (IsPage (book_of b.entry) (map (λ list. list.items) rows.now))
         out.old.items out.new.items) }
 {
-    let circuits = right_names(alloc, rights)?;
-    let b = Book {
-        unit,
-        names,
-        right_names: &circuits,
-        lefts,
-        rights,
-        places,
-    };
+    let circuits = right_names(alloc, b.rights)?;
     out.extend_from_slice(b"Partners are proposed; what is sure stands in the report.\n")?;
-    push_pairs(alloc, out, b, rows)
+    push_pairs(alloc, out, b, &circuits, rows)
 }

@@ -13,7 +13,7 @@ use Rattle.view_drawing.specs.Drawn.{items_in}
 use Rattle.view_drawing.specs.declared.source.Source.{Source}
 use Rattle.view_joined.specs.Devices.{HaveRegions}
 use Rattle.view_labels.specs.Labels.{shown_cell}
-use Rattle.view_laws.specs.Shown.{Called}
+use Rattle.view_shapes.specs.ReadLaws.{Called}
 use Rattle.view_netlist.specs.Drawing.{Drawn, blank}
 use Rattle.view_netlist.specs.declared.drawing.DevicePlace.{DevicePlace}
 use Rattle.view_netlist.specs.declared.drawing.Drawing.{Drawing}

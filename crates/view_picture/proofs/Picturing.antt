@@ -9,7 +9,7 @@ use Rattle.view_drawing.specs.Devices.{AddsRegions, Area, AreSmallRegions, good_
 use Rattle.view_drawing.specs.Drawn.{IsCellDrawn, items_in}
 use Rattle.view_drawing.specs.declared.source.Source.{Source}
 use Rattle.view_labels.specs.Labels.{shown_cell}
-use Rattle.view_laws.specs.Shown.{Called}
+use Rattle.view_shapes.specs.ReadLaws.{Called}
 use Rattle.view_netlist.specs.Drawing.{AreAllSmall, Drawn}
 use Rattle.view_netlist.specs.declared.drawing.Drawing.{Drawing}
 use Rattle.view_file.specs.declared.regions.Region.{Region}

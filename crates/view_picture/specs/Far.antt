@@ -10,7 +10,7 @@ use Rattle.view_drawing.specs.Devices.{Area}
 use Rattle.view_drawing.specs.Far.{ReachesFar}
 use Rattle.view_drawing.specs.declared.source.Source.{Source}
 use Rattle.view_joined.specs.Far.{JoinsFar}
-use Rattle.view_laws.specs.Shown.{Called}
+use Rattle.view_shapes.specs.ReadLaws.{Called}
 use Rattle.view_netlist.specs.declared.drawing.Drawing.{Drawing}
 
 -- something of a cell with a circuit, which the top reaches

@@ -19,7 +19,7 @@ use Rattle.view_file.specs.Regions.{class_in}
 use Rattle.view_file.specs.declared.layout.Picture.{Picture}
 use Rattle.view_file.specs.declared.regions.Region.{Region}
 use Rattle.view_joined.specs.Joined.{IsJoinedDrawing}
-use Rattle.view_laws.specs.Shown.{Called}
+use Rattle.view_shapes.specs.ReadLaws.{Called}
 use Rattle.view_netlist.specs.Drawing.{Drawn, blank, plain_drawing}
 use Rattle.view_netlist.specs.declared.drawing.DevicePlace.{DevicePlace}
 use Rattle.view_netlist.specs.declared.drawing.Drawing.{Drawing}

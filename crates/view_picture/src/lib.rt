@@ -7,4 +7,4 @@ mod parts;
 mod pictures;
 
 pub use drawings::{Given, Sketch, draw_written};
-pub use pictures::picture;
+pub use pictures::{Sketched, picture};

@@ -37,37 +37,50 @@ fn regions_of(alloc: Global, found: Vec<Found>) -> Result<Vec<Region>, AllocErro
     Ok(out)
 }
 
+/// What is drawn of a layout's circuits by their cells, the cells with circuits, and the names of
+/// their circuits.
+#[derive(Drop)]
+pub struct Sketched {
+    pub sketch: Sketch,
+    pub cells: Vec<u32>,
+    pub names: Vec<Name>,
+}
+
 /// The picture of these circuits of an aligned netlist: each under the name of its cell, with what
 /// is drawn of the circuits that stand inside it, by the sketch of the netlist that was aligned.
-/// `cells` are the cells with circuits, `names` the names of their circuits. `TooFar` where
-/// something reaches 2^30 or more from the origin. Cost: what is drawn, of flattened circuits once
-/// for each call.
+/// `TooFar` where something reaches 2^30 or more from the origin. Cost: what is drawn, of flattened
+/// circuits once for each call.
 pub fn picture(
     alloc: Global,
     design: &Design,
     rules: &RuleSet,
-    cells: &[u32],
-    names: &[Name],
-    sketch: Sketch,
+    drawn: Sketched,
     origins: &Origins,
     lefts: &[Circuit],
 ) -> Result<Picture, ShowFault>
-    requires cells { AreInside (length design.now.cells) cells.now }
-    requires small { AreAllSmall sketch.drawings.items }
-    requires listed { HaveRegions (areas_of sketch.regions.regions.items) sketch.drawings.items }
-    requires small_regions { AreSmallRegions (areas_of sketch.regions.regions.items) }
-    ensures picture { IfOk result (IsJoinedPicture design.now rules.now.names.items cells.now
-        names.now sketch.drawings.items (plain_all origins.now) (map plain_circuit lefts.now)) }
+    requires cells { AreInside (length design.now.cells) drawn.cells.items }
+    requires small { AreAllSmall drawn.sketch.drawings.items }
+    requires listed { HaveRegions (areas_of drawn.sketch.regions.regions.items)
+        drawn.sketch.drawings.items }
+    requires small_regions { AreSmallRegions (areas_of drawn.sketch.regions.regions.items) }
+    ensures picture { IfOk result (IsJoinedPicture design.now rules.now.names.items
+        drawn.cells.items drawn.names.items drawn.sketch.drawings.items (plain_all origins.now)
+        (map plain_circuit lefts.now)) }
     ensures small { IfOk result IsSmallPicture }
     ensures far { IsErrOf result ShowFault.TooFar → HasFarJoined
-        (plain_all origins.now).insides (plain_all origins.now).circuits sketch.drawings.items
-        (areas_of sketch.regions.regions.items) }
+        (plain_all origins.now).insides (plain_all origins.now).circuits
+        drawn.sketch.drawings.items (areas_of drawn.sketch.regions.regions.items) }
 {
+    let Sketched {
+        sketch,
+        cells,
+        names,
+    } = drawn;
     let Sketch { drawings, regions } = sketch;
     let mut found = regions;
-    let table = name_table(alloc, names)?;
+    let table = name_table(alloc, &names)?;
     let layers = layer_names(alloc, &rules.names)?;
-    let circuits = labels(alloc, design, cells, &table, lefts)?;
+    let circuits = labels(alloc, design, &cells, &table, lefts)?;
     let joined = join_all(alloc, origins, &drawings, lefts, &mut found)?;
     Ok(Picture {
         names: Names { layers, circuits },

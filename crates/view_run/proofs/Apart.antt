@@ -5,7 +5,7 @@ use Rattle.lvs_words.specs.declared.flag.Flag.TheVariants as flag
 use Rattle.lvs_words.specs.Fitting.{fits, workers_of}
 use Rattle.lvs_words.specs.Items.{Item, items, path, shared, value_of}
 use Rattle.lvs_words.proofs.Apart.{all_needed, differ, needed_at, some_path}
-use Rattle.view_options.specs.Stated.{Asked, asked, asked_by, free_flags, needed_flags}
+use Rattle.view_run.specs.Stated.{Asked, asked, asked_by, free_flags, needed_flags}
 use Rattle.view_run.specs.Runs.{IsPageApart}
 
 -- the database's path is there

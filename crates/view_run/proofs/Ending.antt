@@ -1,6 +1,6 @@
 -- What a run comes to, and that the counts of faults show it.
 use Rattle.std.proofs.Common.{◌≡◌, ◌≢◌, inl, inr, ℕ, ◌+◌, ◌-◌, ◌^◌, ◌<◌, List, ◌∷◌, Option, Some, None, IfSome, refl, sym, ap, subst, ◌∙◌, arith}
-use Rattle.lvs_files.specs.Files.{AreApart, File}
+use Rattle.lvs_outside.specs.Files.{AreApart, File}
 use Rattle.lvs_outside.specs.Store.{HasRoom, Store}
 use Rattle.lvs_outside.specs.Summary.{SinkState}
 use Rattle.lvs_run.specs.Answers.{Answer, Outside, RefusedMergedLayout, RefusedMergedSchematic, RefusedSame, RefusedWords, refused}
@@ -18,7 +18,7 @@ use Rattle.pair_jobs.specs.declared.verdict.Verdict.TheVariants as verdict
 use Rattle.plain_netlist.specs.Netlist.{Netlist}
 use Rattle.report_file.specs.Combined.{wide_name}
 use Rattle.rule_text.specs.Rules.{Rules}
-use Rattle.view_options.specs.Stated.{Asked}
+use Rattle.view_run.specs.Stated.{Asked}
 use Rattle.view_run.specs.Ends.{AsRun, End, ShowsTheFaults, TooFar, refused_for, stopped, verdict_end}
 use Rattle.view_run.specs.Runs.{BadLayout, BadRules, BadSchematic, Comes, Delivers, IsPageApart, IsReady, IsSilent, NoMemory, NothingMade, Refused, SamePath, Sends, Stopped, Stops, WrongWords, Wrote, page_files}
 use Rattle.view_run.specs.Far.{Far, Memory, NotMade, Wide}

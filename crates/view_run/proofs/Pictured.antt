@@ -35,7 +35,7 @@ use Rattle.view_run.specs.Far.{HasFarCircuit}
 use Rattle.view_run.specs.Found.{HasCells}
 use Rattle.view_run.specs.Sketched.{AreSketched, IsJoinedBy}
 use Rattle.view_run.specs.Views.{ArePictured}
-use Rattle.view_run.specs.declared.drawing.Sketched.{Sketched}
+use Rattle.view_picture.specs.declared.pictures.Sketched.{Sketched}
 use Rattle.view_run.specs.declared.found.Cells.{Cells}
 
 pub reached : (l : Layout) (r : Rules) (c : Cells) → HasCells l r c → (k cell : ℕ) → slice_get c.cells.items k ≡ Some cell → IsReached (plain l.design) cell

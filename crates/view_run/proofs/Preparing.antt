@@ -3,7 +3,7 @@ use Rattle.std.proofs.Common.{◌≡◌, ℕ, Bool, List, ◌∷◌, Option, Som
 use Rattle.std.specs.Option.{option_map}
 use Rattle.gds_layout.specs.Layouts.{IsRead}
 use Rattle.gds_layout.specs.declared.layout.Layout.{Layout}
-use Rattle.lvs_files.specs.Files.{File}
+use Rattle.lvs_outside.specs.Files.{File}
 use Rattle.lvs_outside.specs.Store.{Store}
 use Rattle.lvs_run.specs.Answers.{Answer}
 use Rattle.lvs_run.specs.Answers as run
@@ -15,7 +15,7 @@ use Rattle.rule_text.specs.Reading.{Means}
 use Rattle.rule_text.specs.Rules.{Rules}
 use Rattle.spice_rows.specs.Sizes.{read_limit}
 use Rattle.spice_text.specs.Means.{Means as SpiceMeans}
-use Rattle.view_options.specs.Stated.{Asked}
+use Rattle.view_run.specs.Stated.{Asked}
 use Rattle.view_run.specs.Ends.{AsRun, End}
 use Rattle.view_run.specs.Runs.{BadLayout, BadRules, BadSchematic, IsReady, NoMemory, NothingMade, ReadsAll, ReadsLayout, ReadsRules, Stops, page_files}
 use Rattle.view_run.specs.Far.{NotMade}

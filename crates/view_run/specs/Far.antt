@@ -21,7 +21,7 @@ use Rattle.rule_text.specs.Rules.{Rules}
 use Rattle.view_drawing.specs.Calls.{called_in}
 use Rattle.view_drawing.specs.Devices.{Area, areas_of}
 use Rattle.view_drawing.specs.declared.source.Source.{Source}
-use Rattle.view_laws.specs.Shown.{Called}
+use Rattle.view_shapes.specs.ReadLaws.{Called}
 use Rattle.view_netlist.specs.declared.drawing.Drawing.{Drawing}
 use Rattle.view_picture.specs.Far.{HasFarCell, HasFarJoined}
 use Rattle.view_picture.specs.declared.drawings.Sketch.{Sketch}

@@ -4,6 +4,8 @@ pub mod Ends
 pub mod Found
 pub mod Places
 pub mod Views
+pub mod Showing
 pub mod Sketched
 pub mod Far
 pub mod Runs
+pub mod Stated

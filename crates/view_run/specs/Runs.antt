@@ -2,7 +2,7 @@
 use Rattle.std.specs.Prelude.{◌≡◌, ◌≢◌, ◌⊎◌, ℕ, List, [], ◌∷◌, Option, Some, None, IfSome, is_some}
 use Rattle.gds_layout.specs.Layouts.{IsRead}
 use Rattle.gds_layout.specs.declared.layout.Layout.{Layout}
-use Rattle.lvs_files.specs.Files.{File, WrotePart, WroteWhole}
+use Rattle.lvs_outside.specs.Files.{File, WrotePart, WroteWhole}
 use Rattle.lvs_outside.specs.Store.{Store}
 use Rattle.lvs_outside.specs.Summary.{SinkState}
 use Rattle.lvs_run.specs.Answers.{Answer, Outside, RefusedSame, RefusedWords}
@@ -16,7 +16,7 @@ use Rattle.rule_text.specs.Reading.{Means}
 use Rattle.rule_text.specs.Rules.{Rules}
 use Rattle.spice_rows.specs.Sizes.{read_limit}
 use Rattle.spice_text.specs.Means.{Means as SpiceMeans}
-use Rattle.view_options.specs.Stated.{Asked}
+use Rattle.view_run.specs.Stated.{Asked}
 use Rattle.view_run.specs.Ends.{AsRun, End, refusal_text, refused_for, verdict_end}
 use Rattle.view_run.specs.declared.status.Why.{Why}
 use Rattle.view_run.specs.Far.{NotMade}

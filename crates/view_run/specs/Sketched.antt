@@ -19,13 +19,13 @@ use Rattle.view_drawing.specs.Devices.{AreSmallRegions, areas_of}
 use Rattle.view_drawing.specs.declared.source.Source.{Source}
 use Rattle.view_file.specs.declared.layout.Picture.{Picture}
 use Rattle.view_labels.specs.Labels.{AreInside}
-use Rattle.view_laws.specs.Shown.{Called}
+use Rattle.view_shapes.specs.ReadLaws.{Called}
 use Rattle.view_netlist.specs.declared.drawing.Drawing.{Drawing}
 use Rattle.view_netlist.specs.Drawing.{AreAllSmall}
 use Rattle.view_picture.specs.Picture.{AreDrawn, IsJoinedPicture}
 use Rattle.view_picture.specs.declared.drawings.Sketch.{Sketch}
 use Rattle.view_run.specs.Views.{AreCellsOf}
-use Rattle.view_run.specs.declared.drawing.Sketched.{Sketched}
+use Rattle.view_picture.specs.declared.pictures.Sketched.{Sketched}
 use Rattle.view_run.specs.declared.found.Cells.{Cells}
 
 -- what is drawn of these circuits of the layout, by right nets, of which those are called that are

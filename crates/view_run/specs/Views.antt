@@ -44,7 +44,7 @@ use Rattle.view_cross.specs.declared.rows.Row.{Row}
 use Rattle.view_cross.specs.Whole.{AreWhole}
 use Rattle.view_file.specs.File.{IsDatabase}
 use Rattle.view_file.specs.declared.layout.Picture.{Picture}
-use Rattle.view_laws.specs.Shown.{Called}
+use Rattle.view_shapes.specs.ReadLaws.{Called}
 use Rattle.view_labels.specs.Logs.{gate_log, pair_logs}
 use Rattle.view_page.specs.Page.{IsPage, book}
 use Rattle.view_page.specs.declared.places.Places.{Places}

@@ -34,7 +34,7 @@ use rule_text::RuleSet;
 use std::alloc::{AllocError, Global};
 use view_drawing::{Lists, Source, find_lists};
 use view_file::Picture;
-use view_picture::{Given, Sketch, draw_written, picture};
+use view_picture::{Given, Sketch, Sketched, draw_written, picture};
 use view_shapes::ShowFault;
 
 /// The names of a netlist's circuits. Linear in their bytes.
@@ -81,15 +81,6 @@ fn draw_lists<'a, 'b>(
     };
     let drawn = draw_written(alloc, given, written)?;
     Ok(drawn)
-}
-
-/// What is drawn of a layout's circuits by their cells, the cells with circuits, and the names of
-/// their circuits.
-#[derive(Drop)]
-pub struct Sketched {
-    pub sketch: Sketch,
-    pub cells: Vec<u32>,
-    pub names: Vec<Name>,
 }
 
 /// What is drawn of a layout's circuits, before they are aligned. All else that was found of the
@@ -150,14 +141,7 @@ pub fn joined(
         (areas_of drawn.sketch.regions.regions.items) }
 {
     let origins = part_origins(alloc, written, shown)?;
-    let Sketched {
-        sketch,
-        cells,
-        names,
-    } = drawn;
-    let (design, lefts) = (&layout.design, shown.circuits.as_slice());
-    let made = picture(
-        alloc, design, rules, &cells, &names, sketch, &origins, lefts,
-    )?;
+    let lefts = shown.circuits.as_slice();
+    let made = picture(alloc, &layout.design, rules, drawn, &origins, lefts)?;
     Ok(made)
 }

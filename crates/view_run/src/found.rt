@@ -69,9 +69,8 @@ pub fn find_all<R: Threads + Wait + Sync, G: Gate + Sync>(
     };
     let (gated, pins) = (&tables.gated, &tables.pins);
     let drawn = draw(alloc, design, rules, gated, pins, unit_pm, crew)?;
-    let (nets, gates) = (&gated.nets, &gated.gates);
-    let circuits = find_circuits(alloc, design, rules, nets, pins, gates, unit_pm, crew)?;
-    let cells = circuit_cells(alloc, design, gates)?;
+    let circuits = find_circuits(alloc, design, rules, gated, pins, unit_pm, crew)?;
+    let cells = circuit_cells(alloc, design, &gated.gates)?;
     Ok(Found {
         netlist: drawn.netlist,
         top: drawn.top,

@@ -8,10 +8,12 @@ mod making;
 mod merging;
 mod places;
 mod run;
+mod stated;
 mod status;
 mod stops;
 mod summary;
 mod writing;
 
 pub use run::run_view;
+pub use stated::{Task, read_task};
 pub use status::{Status, Why};

@@ -14,16 +14,16 @@ ghost use Rattle.view_run.specs.Ends.{stopped};
 ghost use Rattle.view_run.specs.Found.{HasFound};
 ghost use Rattle.view_run.specs.Far.{NotMade};
 ghost use Rattle.view_run.specs.Lines.{view_line};
+ghost use Rattle.view_run.specs.Showing.{rights_in};
 ghost use Rattle.view_run.specs.Views.{AreAllPaired, AreWritten, CanBeOrdered, IsView};
-ghost use Rattle.view_run.specs.Views.{shown_rights};
 
 use crate::drawing::{circuit_names, draw, joined};
 use crate::found::{Found, find_all};
-use crate::merging::{Both, as_compared};
+use crate::merging::as_compared;
 use crate::status::Stop;
 use crate::stops::view_stop;
 use crate::summary::view_line;
-use crate::writing::{propose, shown_circuits, write_database, write_page};
+use crate::writing::{Showing, propose, shown_circuits, write_database, write_page};
 use deep_tables::BadGate;
 use gds_layout::Layout;
 use job_board::{Crew, Gate};
@@ -36,7 +36,6 @@ use rule_text::RuleSet;
 use std::alloc::{AllocError, Global};
 use std::sync::Wait;
 use std::thread::Threads;
-use view_file::Picture;
 
 /// What is made of a layout and a schematic: the database, the page where it is asked for, the line,
 /// and what they come to.
@@ -79,35 +78,28 @@ struct Told<'a> {
 }
 
 // What there is to write of what was compared.
-fn view_compared(
-    alloc: Global,
-    layout: &Layout,
-    rules: &RuleSet,
-    picture: &Picture,
-    both: &Both,
-    compared: &Option<Compared>,
-    told: Told<'_>,
-) -> Result<View, AllocError>
-    requires paired { AreAllPaired compared.now }
-    requires small { IsSmallPicture picture.now }
-    requires cells { All (λ x. x.cell < length layout.now.design.cells) told.bad.now }
-    requires ordered { CanBeOrdered (shown_rights (plain_netlist both.now.schematic) compared.now) }
-    requires top { told.top < length both.now.layout.circuits.items }
+fn view_compared(alloc: Global, showing: &Showing<'_>, told: Told<'_>) -> Result<View, AllocError>
+    requires paired { AreAllPaired showing.now.compared.now }
+    requires small { IsSmallPicture showing.now.picture.now }
+    requires cells { All (λ x. x.cell < length showing.now.layout.now.design.cells) told.bad.now }
+    requires ordered { CanBeOrdered (rights_in showing.now) }
+    requires top { told.top < length showing.now.both.now.layout.circuits.items }
     ensures verdict { IfOk result (λ o. IsRunVerdict (length told.entry.bad.now)
-        (all_answers compared.now) o.verdict) }
-    ensures written { IfOk result (λ o. AreWritten layout.now (rules_seen rules.now) picture.now
-        (plain_netlist both.now.layout) (plain_netlist both.now.schematic) compared.now told.entry.top
-        told.entry.bad.now told.entry.paged o.text.items (option_map (λ text. text.items) o.page)) }
+        (all_answers showing.now.compared.now) o.verdict) }
+    ensures written { IfOk result (λ o. AreWritten showing.now.layout.now
+        (rules_seen showing.now.rules.now) showing.now.picture.now
+        (plain_netlist showing.now.both.now.layout) (plain_netlist showing.now.both.now.schematic)
+        showing.now.compared.now told.entry.top told.entry.bad.now told.entry.paged o.text.items
+        (option_map (λ text. text.items) o.page)) }
     ensures line { IfOk result (λ o. o.line.items ≡ view_line o.verdict told.entry.circuits
-        (pair_count compared.now) (length told.entry.bad.now)) }
+        (pair_count showing.now.compared.now) (length told.entry.bad.now)) }
 {
+    let compared = showing.compared;
     let verdict = judge(told.bad, compared)?;
-    let rows = propose(alloc, rules, compared)?;
-    let name = circuit_name(&both.layout, told.top as usize);
-    let text = write_database(
-        alloc, layout, rules, picture, both, compared, &rows, name, told.bad,
-    )?;
-    let page = write_page(alloc, layout, picture, both, compared, &rows, told.paged)?;
+    let rows = propose(alloc, showing.rules, compared)?;
+    let name = circuit_name(&showing.both.layout, told.top as usize);
+    let text = write_database(alloc, showing, &rows, name, told.bad)?;
+    let page = write_page(alloc, showing, &rows, told.paged)?;
     let (pairs, bad) = (pair_count(compared), told.bad.len());
     let line = view_line(alloc, verdict, told.circuits, pairs, bad)?;
     Ok(View {
@@ -168,7 +160,14 @@ fn view_found<R: Threads + Wait + Sync, G: Gate + Sync>(
         bad: &bad,
         paged,
     };
-    let made = view_compared(alloc, layout, rules, &picture, &both, compared, told)?;
+    let showing = Showing {
+        layout,
+        rules,
+        picture: &picture,
+        both: &both,
+        compared,
+    };
+    let made = view_compared(alloc, &showing, told)?;
     Ok(made)
 }
 

@@ -2,12 +2,12 @@
 
 ghost use Rattle.std.specs.Prelude.{◌≡◌, ◌∷◌, ◌++◌, ◌≤◌, IfErr, IfOk, None, Some, map, string_bytes};
 ghost use Rattle.std.specs.Option.{option_map};
-ghost use Rattle.lvs_files.specs.Files.{AreApart, files_of};
+ghost use Rattle.lvs_outside.specs.Files.{AreApart, files_of};
 ghost use Rattle.lvs_outside.specs.Store.{HasRoom};
 ghost use Rattle.lvs_outside.specs.Summary.{SinkHasRoom};
 ghost use Rattle.lvs_run.specs.Answers.{RefusedSame};
 ghost use Rattle.lvs_run.specs.Inputs.{Quiet};
-ghost use Rattle.view_options.specs.Stated.{asked, asked_of};
+ghost use Rattle.view_run.specs.Stated.{asked, asked_of};
 ghost use Rattle.view_run.specs.Ends.{AsRun, ShowsTheFaults, end_of, refusal_text, refused_for};
 ghost use Rattle.view_run.specs.Ends.{stopped, verdict_end};
 ghost use Rattle.lvs_run.specs.Words.{file_at};
@@ -17,9 +17,9 @@ ghost use Rattle.view_run.specs.Runs.{page_files};
 use crate::making::{View, make_view};
 use crate::status::{Status, Stop, Why};
 use crate::stops::run_stop;
+use crate::{Task, read_task};
 use job_board::{Crew, Gate};
-use lvs_files::{Written, write_files};
-use lvs_outside::{Depot, Sink, write_all};
+use lvs_outside::{Depot, Sink, Written, write_all, write_files};
 use lvs_run::{Refusal, layout_of, refusal_line, rules_of, schematic_of};
 use lvs_words::WordFault;
 use pair_jobs::Verdict;
@@ -27,7 +27,6 @@ use report_file::read_alignable;
 use std::alloc::{AllocError, Global};
 use std::sync::Wait;
 use std::thread::Threads;
-use view_options::{Task, read_task};
 
 /// What a run has to write: the files in this order, then the line.
 #[derive(Drop)]

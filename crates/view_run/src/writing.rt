@@ -1,21 +1,17 @@
 //! The database and the page of what was compared.
 
-ghost use Rattle.std.specs.Prelude.{◌≡◌, ◌<◌, ◌*◌, [], IfOk, length, map};
+ghost use Rattle.std.specs.Prelude.{◌≡◌, ◌<◌, IfOk, length, map};
 ghost use Rattle.std.specs.List.{All};
 ghost use Rattle.std.specs.Option.{option_map};
-ghost use Rattle.cell_graph.specs.Linked.{cell_at};
-ghost use Rattle.match_report.specs.Gates.{name_of as cell_name};
 ghost use Rattle.net_model.specs.Rows.{plain_netlist};
-ghost use Rattle.report_file.specs.File.{all_answers};
 ghost use Rattle.rule_text.specs.Seen.{rules_seen};
 ghost use Rattle.view_cross.specs.Whole.{AreWhole};
 ghost use Rattle.view_file.specs.Cross.{lists_of};
-ghost use Rattle.view_file.specs.File.{IsDatabase};
 ghost use Rattle.view_file.specs.Layout.{IsSmallPicture};
 ghost use Rattle.view_labels.specs.Logs.{gate_log};
+ghost use Rattle.view_run.specs.Showing.{IsDatabaseOf, lefts_in, rights_in};
 ghost use Rattle.view_run.specs.Views.{AreAllPaired, AreRowsOf, AreWholeRows, CanBeOrdered};
-ghost use Rattle.view_run.specs.Views.{IsPageAsked, shown_left, shown_lefts, shown_logs};
-ghost use Rattle.view_run.specs.Views.{shown_right, shown_rights};
+ghost use Rattle.view_run.specs.Views.{IsPageAsked, shown_left, shown_right};
 
 use crate::merging::Both;
 use crate::places::places;
@@ -29,9 +25,9 @@ use net_names::Name;
 use rule_text::RuleSet;
 use std::alloc::{AllocError, Global};
 use view_cross::Row;
-use view_file::{Picture, database};
+use view_file::{Picture, Shown, database};
 use view_labels::pair_logs;
-use view_page::push_page;
+use view_page::{Book, push_page};
 use view_pairs::proposals;
 
 /// The circuits of the layout as they are compared.
@@ -56,60 +52,60 @@ fn shown_schematic<'a>(both: &'a Both, compared: &'a Option<Compared>) -> &'a Ne
     }
 }
 
+/// What is shown of a layout by its rules: what is drawn, the netlists, and what was compared of them.
+#[derive(Clone, Copy)]
+pub struct Showing<'a> {
+    pub layout: &'a Layout,
+    pub rules: &'a RuleSet,
+    pub picture: &'a Picture,
+    pub both: &'a Both,
+    pub compared: &'a Option<Compared>,
+}
+
 /// The database of what was compared.
 pub fn write_database(
     alloc: Global,
-    layout: &Layout,
-    rules: &RuleSet,
-    picture: &Picture,
-    both: &Both,
-    compared: &Option<Compared>,
+    showing: &Showing<'_>,
     rows: &[Vec<Row>],
     top: &Name,
     bad: &[BadGate],
 ) -> Result<Vec<u8>, AllocError>
-    requires whole { AreWhole (shown_lefts (plain_netlist both.now.layout) compared.now)
-        (shown_rights (plain_netlist both.now.schematic) compared.now) (lists_of rows.now) }
-    requires small { IsSmallPicture picture.now }
-    requires cells { All (λ x. x.cell < length layout.now.design.cells) bad.now }
-    requires ordered { CanBeOrdered (shown_rights (plain_netlist both.now.schematic) compared.now) }
-    ensures { IfOk result (λ v. IsDatabase
-        (cell_name (cell_at layout.now.design layout.now.design.top))
-        (layout.now.header.unit_pm * 1000) (rules_seen rules.now) picture.now
-        (shown_logs (gate_log layout.now.design top.now bad.now) compared.now)
-        (shown_lefts (plain_netlist both.now.layout) compared.now)
-        (shown_rights (plain_netlist both.now.schematic) compared.now)
-        (lists_of rows.now) (all_answers compared.now) v.items) }
+    requires whole { AreWhole (lefts_in showing.now) (rights_in showing.now) (lists_of rows.now) }
+    requires small { IsSmallPicture showing.now.picture.now }
+    requires cells { All (λ x. x.cell < length showing.now.layout.now.design.cells) bad.now }
+    requires ordered { CanBeOrdered (rights_in showing.now) }
+    ensures { IfOk result (λ v. IsDatabaseOf showing.now
+        (gate_log showing.now.layout.now.design top.now bad.now) (lists_of rows.now) v.items) }
 {
+    let layout = showing.layout;
     layout.design.sound();
     let design = &layout.design;
     let cell = design.name(design.top()).bytes();
     let unit = Femto(u128::from(layout.header.unit_pm) * 1000);
-    match compared {
+    let (rules, picture) = (showing.rules, showing.picture);
+    match showing.compared {
         Some(found) => {
             let logs = pair_logs(alloc, found, top, bad, design)?;
-            let (lefts, rights) = (&found.left.circuits, &found.right.circuits);
-            let answers = Some(&found.answers);
-            number(rights.len())?;
-            database(
-                alloc, cell, unit, rules, picture, &logs, lefts, rights, rows, answers,
-            )
+            let shown = Shown {
+                logs: &logs,
+                lefts: &found.left.circuits,
+                rights: &found.right.circuits,
+                proposals: rows,
+                answers: Some(&found.answers),
+            };
+            number(shown.rights.len())?;
+            database(alloc, cell, unit, rules, picture, &shown)
         }
         None => {
-            let (lefts, rights) = (&both.layout.circuits, &both.schematic.circuits);
-            number(rights.len())?;
-            database(
-                alloc,
-                cell,
-                unit,
-                rules,
-                picture,
-                &[],
-                lefts,
-                rights,
-                rows,
-                None,
-            )
+            let shown = Shown {
+                logs: &[],
+                lefts: &showing.both.layout.circuits,
+                rights: &showing.both.schematic.circuits,
+                proposals: rows,
+                answers: None,
+            };
+            number(shown.rights.len())?;
+            database(alloc, cell, unit, rules, picture, &shown)
         }
     }
 }
@@ -138,27 +134,27 @@ pub fn propose(
 /// The page of what was compared, where it is asked for; of nothing the line that begins it.
 pub fn write_page(
     alloc: Global,
-    layout: &Layout,
-    picture: &Picture,
-    both: &Both,
-    compared: &Option<Compared>,
+    showing: &Showing<'_>,
     rows: &[Vec<Row>],
     paged: bool,
 ) -> Result<Option<Vec<u8>>, AllocError>
-    ensures { IfOk result (λ page. IsPageAsked paged layout.now.header.unit_pm picture.now
-        (shown_lefts (plain_netlist both.now.layout) compared.now)
-        (shown_rights (plain_netlist both.now.schematic) compared.now) (lists_of rows.now)
+    ensures { IfOk result (λ page. IsPageAsked paged showing.now.layout.now.header.unit_pm
+        showing.now.picture.now (lefts_in showing.now) (rights_in showing.now) (lists_of rows.now)
         (option_map (λ text. text.items) page)) }
 {
     if !paged {
         return Ok(None);
     }
-    let shown = places(alloc, &picture.drawings)?;
-    let unit = layout.header.unit_pm;
-    let names = &picture.names.circuits;
-    let lefts = &shown_circuits(both, compared).circuits;
-    let rights = &shown_schematic(both, compared).circuits;
+    let (both, compared) = (showing.both, showing.compared);
+    let shown = places(alloc, &showing.picture.drawings)?;
+    let book = Book {
+        unit: showing.layout.header.unit_pm,
+        names: &showing.picture.names.circuits,
+        lefts: &shown_circuits(both, compared).circuits,
+        rights: &shown_schematic(both, compared).circuits,
+        places: &shown,
+    };
     let mut text = Vec::new(alloc);
-    push_page(alloc, &mut text, unit, names, lefts, rights, rows, &shown)?;
+    push_page(alloc, &mut text, book, rows)?;
     Ok(Some(text))
 }

@@ -10,7 +10,7 @@ use Rattle.geo_base.specs.Rects.{IsRect}
 use Rattle.geo_base.specs.declared.shapes.Rect.{Rect}
 use Rattle.geo_base.specs.declared.shapes.Square.{Square}
 use Rattle.net_walk.specs.Walk.{HasNoSquare, IsHull}
-use Rattle.view_laws.specs.Shown.{Called}
+use Rattle.view_shapes.specs.ReadLaws.{Called}
 use Rattle.view_shapes.proofs.Adding.{nowhere}
 use Rattle.view_shapes.proofs.Showing.{shows_holds}
 use Rattle.view_shapes.specs.Pieces.{AreNear, AreProper, HasFar, IsOver}

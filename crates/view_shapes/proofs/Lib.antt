@@ -1,3 +1,4 @@
 mod Adding
 mod Showing
 mod Bounding
+mod Reading

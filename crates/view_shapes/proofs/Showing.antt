@@ -20,7 +20,7 @@ use Rattle.net_walk.proofs.Walking.{IsAmong, IsNext, among_more, net_at, at_net,
 use Rattle.net_walk.specs.Held.{IsMarked}
 use Rattle.net_walk.specs.Walk.{place_of}
 use Rattle.net_walk.specs.declared.cells.Element.{Element}
-use Rattle.view_laws.specs.Shown.{Called, IsShown, NetShows}
+use Rattle.view_shapes.specs.ReadLaws.{Called, IsShown, NetShows}
 use Rattle.view_shapes.proofs.Adding.{added_none, added_both, added_as}
 use Rattle.view_shapes.specs.Pieces.{IsOver, AreNear, AreListed, AddsPieces, IsOfOwn, IsOfOwnAt, IsOfMoved}
 use Rattle.view_shapes.specs.Shown.{IsShownWanted}

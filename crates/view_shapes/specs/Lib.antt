@@ -1,3 +1,4 @@
 pub mod Pieces
 pub mod Wanted
 pub mod Shown
+pub mod ReadLaws

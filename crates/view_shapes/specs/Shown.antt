@@ -9,7 +9,7 @@ use Rattle.geo_base.specs.Rects.{IsRect}
 use Rattle.geo_base.specs.declared.shapes.Rect.{Rect}
 use Rattle.geo_base.specs.declared.shapes.Square.{Square}
 use Rattle.net_walk.specs.Held.{IsMarked}
-use Rattle.view_laws.specs.Shown.{Called, NetShows}
+use Rattle.view_shapes.specs.ReadLaws.{Called, NetShows}
 use Rattle.view_words.specs.Numbers.{IsSmallRect}
 
 -- for each cell, the marks of its nets that calls have a pin on

@@ -11,6 +11,11 @@ use Rattle.cell_graph.specs.declared.cells.Place.{Place}
 use Rattle.cell_graph.specs.Linked.{Linked, motion_at}
 use Rattle.zone_phase.specs.Siblings.{around, siblings, IsBroughtBy, HasSibling, SiblingLaw}
 
+-- an array begun elsewhere, by its shifts one by one
+abbrev pub begun : Place → ℕ → ℕ → ℕ → ℕ → ℕ → ℕ → Place
+begun p up down right left rows columns =
+    around p (record { rows = record { ahead = up; back = down; count = rows }; columns = record { ahead = right; back = left; count = columns } })
+
 pub none_times : (z : ℤ) → pos 0 *ℤ z ≡ pos 0
 none_times (pos m) = pos-*ℤ-pos 0 m ∙ ap pos (let e : 0 * m ≡ 0 = omega arith in e)
 none_times (negsuc m) = pos-*ℤ-negsuc 0 m ∙ ap (λ k. neg_ℤ (pos k)) (let e : 0 * suc m ≡ 0 = omega arith in e)
@@ -45,7 +50,7 @@ same_square a b c e f g =
 
 module _ (p : Place) (up down right left rows columns : ℕ) (or oc row column i j : ℕ) (e : or + down ≡ row + i + up) (f : oc + left ≡ column + j + right) (r q : Square) where
   v : Place
-  v = around p up down right left rows columns
+  v = begun p up down right left rows columns
 
   sums : (s : ℤ) → (pos oc *ℤ s) +ℤ (pos left *ℤ s) ≡ ((pos column *ℤ s) +ℤ (pos j *ℤ s)) +ℤ (pos right *ℤ s)
   sums s = same_sum oc column j right left s f
@@ -53,12 +58,12 @@ module _ (p : Place) (up down right left rows columns : ℕ) (or oc row column i
   row_sums : (s : ℤ) → (pos or *ℤ s) +ℤ (pos down *ℤ s) ≡ ((pos row *ℤ s) +ℤ (pos i *ℤ s)) +ℤ (pos up *ℤ s)
   row_sums s = same_sum or row i up down s e
 
-  pub forth : moved_square (motion_at p or oc) r ≡ moved_square (motion_at p row column) q → moved_square (motion_at (around p up down right left rows columns) i j) r ≡ moved_square (motion_at p 0 0) q
+  pub forth : moved_square (motion_at p or oc) r ≡ moved_square (motion_at p row column) q → moved_square (motion_at (begun p up down right left rows columns) i j) r ≡ moved_square (motion_at p 0 0) q
   forth h = same_square _ _ _ _
       (there (turned_x p.motion.turn r.x r.y) (turned_x p.motion.turn q.x q.y) p.motion.dx _ _ _ _ _ _ _ _ _ _ _ _ (sums p.column_step.x) (row_sums p.row_step.x) (none_times p.column_step.x) (none_times p.row_step.x) (ap (λ (s : Square). s.x) h))
       (there (turned_y p.motion.turn r.x r.y) (turned_y p.motion.turn q.x q.y) p.motion.dy _ _ _ _ _ _ _ _ _ _ _ _ (sums p.column_step.y) (row_sums p.row_step.y) (none_times p.column_step.y) (none_times p.row_step.y) (ap (λ (s : Square). s.y) h))
 
-  pub again : moved_square (motion_at (around p up down right left rows columns) i j) r ≡ moved_square (motion_at p 0 0) q → moved_square (motion_at p or oc) r ≡ moved_square (motion_at p row column) q
+  pub again : moved_square (motion_at (begun p up down right left rows columns) i j) r ≡ moved_square (motion_at p 0 0) q → moved_square (motion_at p or oc) r ≡ moved_square (motion_at p row column) q
   again h = same_square _ _ _ _
       (back (turned_x p.motion.turn r.x r.y) (turned_x p.motion.turn q.x q.y) p.motion.dx _ _ _ _ _ _ _ _ _ _ _ _ (sums p.column_step.x) (row_sums p.row_step.x) (none_times p.column_step.x) (none_times p.row_step.x) (ap (λ (s : Square). s.x) h))
       (back (turned_y p.motion.turn r.x r.y) (turned_y p.motion.turn q.x q.y) p.motion.dy _ _ _ _ _ _ _ _ _ _ _ _ (sums p.column_step.y) (row_sums p.row_step.y) (none_times p.column_step.y) (none_times p.row_step.y) (ap (λ (s : Square). s.y) h))

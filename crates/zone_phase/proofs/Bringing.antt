@@ -22,6 +22,7 @@ use Rattle.cell_context.proofs.Visiting.{wider, wider_rect, near_motion}
 use Rattle.cell_context.proofs.Collecting.{hull_has}
 use Rattle.cell_context.proofs.Gathering.{IsExact, Adds, over_flat, some_at}
 use Rattle.zone_phase.specs.Siblings.{around, IsBroughtTo, Brings, AreShifts}
+use Rattle.zone_phase.specs.declared.siblings.Shifts.{Shifts}
 use Rattle.zone_phase.proofs.Around.{none_times, times_sum, compared}
 
 -- shifts stay near
@@ -49,18 +50,18 @@ wide_steps n m c s near lt less = elim (compared c n) [
       both_within (pos (n - 1) *ℤ s) (pos (c - (n - 1)) *ℤ s) (pos c *ℤ s) (ap (λ k. pos k *ℤ s) (sym e) ∙ times_sum (n - 1) (c - (n - 1)) s) (near (n - 1) (omega arith)) (near (c - (n - 1)) (omega arith))
 ]
 
-pub near_around : (p : Place) (up down right left rows columns : ℕ) → IsCloseArray p → AreShifts p up down right left rows columns → IsNearArray (around p up down right left rows columns)
-near_around p up down right left rows columns h s = record {
+pub near_around : (p : Place) (s : Shifts) → IsCloseArray p → AreShifts p s → IsNearArray (around p s)
+near_around p s h b = record {
   dx = start_within p.motion.dx _ _ h.dx
-      (ahead_within _ _ (no_steps right left p.column_step.x s.across) (h.column_x right s.right_in) (h.column_x left s.left_in))
-      (ahead_within _ _ (no_steps up down p.row_step.x s.along) (h.row_x up s.up_in) (h.row_x down s.down_in));
+      (ahead_within _ _ (no_steps s.columns.ahead s.columns.back p.column_step.x b.across) (h.column_x s.columns.ahead b.right_in) (h.column_x s.columns.back b.left_in))
+      (ahead_within _ _ (no_steps s.rows.ahead s.rows.back p.row_step.x b.along) (h.row_x s.rows.ahead b.up_in) (h.row_x s.rows.back b.down_in));
   dy = start_within p.motion.dy _ _ h.dy
-      (ahead_within _ _ (no_steps right left p.column_step.y s.across) (h.column_y right s.right_in) (h.column_y left s.left_in))
-      (ahead_within _ _ (no_steps up down p.row_step.y s.along) (h.row_y up s.up_in) (h.row_y down s.down_in));
-  column_x = λ column lt. wide_steps p.columns columns column p.column_step.x h.column_x s.columns_in lt;
-  column_y = λ column lt. wide_steps p.columns columns column p.column_step.y h.column_y s.columns_in lt;
-  row_x = λ row lt. let le = s.rows_in in wider (2 ^ 37) (2 ^ 38) (pos row *ℤ p.row_step.x) (omega arith) (h.row_x row (omega arith));
-  row_y = λ row lt. let le = s.rows_in in wider (2 ^ 37) (2 ^ 38) (pos row *ℤ p.row_step.y) (omega arith) (h.row_y row (omega arith));
+      (ahead_within _ _ (no_steps s.columns.ahead s.columns.back p.column_step.y b.across) (h.column_y s.columns.ahead b.right_in) (h.column_y s.columns.back b.left_in))
+      (ahead_within _ _ (no_steps s.rows.ahead s.rows.back p.row_step.y b.along) (h.row_y s.rows.ahead b.up_in) (h.row_y s.rows.back b.down_in));
+  column_x = λ column lt. wide_steps p.columns s.columns.count column p.column_step.x h.column_x b.columns_in lt;
+  column_y = λ column lt. wide_steps p.columns s.columns.count column p.column_step.y h.column_y b.columns_in lt;
+  row_x = λ row lt. let le = b.rows_in in wider (2 ^ 37) (2 ^ 38) (pos row *ℤ p.row_step.x) (omega arith) (h.row_x row (omega arith));
+  row_y = λ row lt. let le = b.rows_in in wider (2 ^ 37) (2 ^ 38) (pos row *ℤ p.row_step.y) (omega arith) (h.row_y row (omega arith));
 }
 
 -- what is there so far is right

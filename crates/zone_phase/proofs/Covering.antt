@@ -2,12 +2,12 @@
 use Rattle.std.proofs.Common.{◌≡◌, ◌⊎◌, inl, inr, ℕ, ℤ, pos, ◌+ℤ◌, ◌*ℤ◌, ◌≤ℤ◌, ◌<ℤ◌, ◌<◌, ◌-◌, true, sym, ◌∙◌, subst, arith}
 use Rattle.std.proofs.lemmas.Int.{ints}
 use Rattle.geo_base.specs.Motions.{moved_square, turned_x, turned_y}
-use Rattle.geo_base.specs.Rects.{has, moved_rect, IsRect}
+use Rattle.geo_base.specs.Rects.{has, moved_rect, IsRect, IsInside}
 use Rattle.geo_base.proofs.Spans.{moved_rect-has}
 use Rattle.geo_base.specs.declared.shapes.Rect.{Rect}
 use Rattle.geo_base.specs.declared.shapes.Square.{Square}
 use Rattle.cell_graph.specs.declared.cells.Place.{Place}
-use Rattle.cell_graph.specs.Linked.{IsInside, motion_at}
+use Rattle.cell_graph.specs.Linked.{motion_at}
 use Rattle.cell_graph.proofs.Bridge.{has_in, in_has, inside_has}
 use Rattle.cell_context.proofs.Times.{ends}
 use Rattle.zone_phase.proofs.Around.{none_times}

@@ -16,8 +16,8 @@ use Rattle.cell_graph.specs.Linked.{Linked, motion_at}
 use Rattle.cell_context.proofs.Collecting.{covers_append}
 use Rattle.deep_laws.specs.Zones.{IsFromSibling}
 use Rattle.zone_phase.specs.Pulls.{IsSome, Adds, OnRects, OnRectsIn, Beside, BesideIn, AreCovering, Why}
-use Rattle.zone_phase.specs.Siblings.{around, siblings, IsBroughtBy, IsBroughtTo, Brings, SomeBring}
-use Rattle.zone_phase.proofs.Around.{sibling}
+use Rattle.zone_phase.specs.Siblings.{ahead, all_columns, back, row_siblings, siblings, IsBroughtBy, IsBroughtTo, Brings, SomeBring}
+use Rattle.zone_phase.proofs.Around.{begun, sibling}
 use Rattle.zone_phase.proofs.Joining.{joined}
 
 -- what no array brings, and what one more brings
@@ -36,27 +36,30 @@ one_more d v vs key w old mid new first rest s = (
   ],
 )
 
+-- the other elements of a row
+pub row_brings : (d : Linked) (p : Place) (key : LayerKey) (w : Rect) (t0 t1 t2 : List Rect)
+    → Brings d (begun p 0 0 1 0 1 (p.columns - 1)) key w t0 t1
+    → Brings d (begun p 0 0 0 (p.columns - 1) 1 (p.columns - 1)) key w t1 t2
+    → SomeBring d (row_siblings p) key w t0 t2
+row_brings d p key w t0 t1 t2 b1 b2 =
+    let left = begun p 0 0 0 (p.columns - 1) 1 (p.columns - 1) in
+    one_more d (begun p 0 0 1 0 1 (p.columns - 1)) (left ∷ []) key w t0 t1 t2 b1 (one_more d left [] key w t1 t2 t2 b2 (no_more d key w t2))
+
 -- the four arrays
-pub others_bring : (d : Linked) (p : Place) (key : LayerKey) (w : Rect) (t0 t1 t2 t3 t4 : List Rect)
-    → Brings d (around p 1 0 0 (p.columns - 1) (p.rows - 1) (2 * p.columns - 1)) key w t0 t1
-    → Brings d (around p 0 (p.rows - 1) 0 (p.columns - 1) (p.rows - 1) (2 * p.columns - 1)) key w t1 t2
-    → Brings d (around p 0 0 1 0 1 (p.columns - 1)) key w t2 t3
-    → Brings d (around p 0 0 0 (p.columns - 1) 1 (p.columns - 1)) key w t3 t4
-    → SomeBring d (siblings p) key w t0 t4
-others_bring d p key w t0 t1 t2 t3 t4 b1 b2 b3 b4 =
-    let second = around p 0 (p.rows - 1) 0 (p.columns - 1) (p.rows - 1) (2 * p.columns - 1) in
-    let third = around p 0 0 1 0 1 (p.columns - 1) in
-    let fourth = around p 0 0 0 (p.columns - 1) 1 (p.columns - 1) in
-    one_more d (around p 1 0 0 (p.columns - 1) (p.rows - 1) (2 * p.columns - 1)) (second ∷ third ∷ fourth ∷ []) key w t0 t1 t4 b1
-    (one_more d second (third ∷ fourth ∷ []) key w t1 t2 t4 b2
-    (one_more d third (fourth ∷ []) key w t2 t3 t4 b3
-    (one_more d fourth [] key w t3 t4 t4 b4 (no_more d key w t4))))
+pub others_bring : (d : Linked) (p : Place) (key : LayerKey) (w : Rect) (t0 t1 t2 t3 : List Rect)
+    → Brings d (all_columns p (ahead 1 (p.rows - 1))) key w t0 t1
+    → Brings d (all_columns p (back (p.rows - 1) (p.rows - 1))) key w t1 t2
+    → SomeBring d (row_siblings p) key w t2 t3
+    → SomeBring d (siblings p) key w t0 t3
+others_bring d p key w t0 t1 t2 t3 b1 b2 b3 =
+    let below = all_columns p (back (p.rows - 1) (p.rows - 1)) in
+    one_more d (all_columns p (ahead 1 (p.rows - 1))) (below ∷ row_siblings p) key w t0 t1 t3 b1 (one_more d below (row_siblings p) key w t1 t2 t3 b2 b3)
 
 module _ (d : Linked) (p : Place) (key : LayerKey) (w : Rect) (t0 t1 : List Rect) (none : t0 ≡ []) (brought : SomeBring d (siblings p) key w t0 t1) (q : Square) where
-  by : (up down right left rows columns : ℕ) → IsBroughtTo d (around p up down right left rows columns) key (moved_square (motion_at p 0 0) q) → IsBroughtBy d p key q (around p up down right left rows columns)
+  by : (up down right left rows columns : ℕ) → IsBroughtTo d (begun p up down right left rows columns) key (moved_square (motion_at p 0 0) q) → IsBroughtBy d p key q (begun p up down right left rows columns)
   by up down right left rows columns b = record { row = b.row; column = b.column; row_in = b.row_in; column_in = b.column_in; square = b.square; flat = b.flat; image = b.image }
 
-  to : (up down right left rows columns : ℕ) → IsBroughtBy d p key q (around p up down right left rows columns) → IsBroughtTo d (around p up down right left rows columns) key (moved_square (motion_at p 0 0) q)
+  to : (up down right left rows columns : ℕ) → IsBroughtBy d p key q (begun p up down right left rows columns) → IsBroughtTo d (begun p up down right left rows columns) key (moved_square (motion_at p 0 0) q)
   to up down right left rows columns b = record { row = b.row; column = b.column; row_in = b.row_in; column_in = b.column_in; square = b.square; flat = b.flat; image = b.image }
 
   some_by : Some_of (λ v. IsBroughtTo d v key (moved_square (motion_at p 0 0) q)) (siblings p) → Some_of (IsBroughtBy d p key q) (siblings p)

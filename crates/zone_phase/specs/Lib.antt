@@ -1,3 +1,4 @@
+pub mod Framed
 pub mod Graph
 pub mod Jobs
 pub mod Names

@@ -1,5 +1,5 @@
 -- The other elements of an array, as arrays round one element.
-use Rattle.std.specs.Prelude.{◌≡◌, ◌⊎◌, ◌↔◌, true, ◌≤◌, ℕ, ◌-◌, ◌*◌, ◌<◌, pos, ◌+ℤ◌, ◌-ℤ◌, ◌*ℤ◌}
+use Rattle.std.specs.Prelude.{◌≡◌, ◌⊎◌, ◌↔◌, true, ◌≤◌, ℕ, ℤ, ◌-◌, ◌*◌, ◌<◌, pos, ◌+ℤ◌, ◌-ℤ◌, ◌*ℤ◌}
 use Rattle.std.specs.Prelude.{List, [], ◌∷◌}
 use Rattle.geo_base.specs.Motions.{moved_square}
 use Rattle.geo_base.specs.Rects.{has}
@@ -11,32 +11,53 @@ use Rattle.flat_layout.specs.Layout.{InFlatInput, Some_of}
 use Rattle.cell_graph.specs.declared.cells.Place.{Place}
 use Rattle.cell_graph.specs.Linked.{Linked, plain, motion_at}
 use Rattle.deep_laws.specs.Zones.{IsFromSibling}
+use Rattle.zone_phase.specs.declared.siblings.Shift.{Shift}
+use Rattle.zone_phase.specs.declared.siblings.Shifts.{Shifts}
+
+-- how far a shift leads
+abbrev pub offset : Shift → ℤ → ℤ
+offset s step = (pos s.ahead *ℤ step) -ℤ (pos s.back *ℤ step)
 
 -- the array, begun so many rows and columns further on or back
-abbrev pub around : Place → ℕ → ℕ → ℕ → ℕ → ℕ → ℕ → Place
-around p up down right left rows columns = record {
+abbrev pub around : Place → Shifts → Place
+around p s = record {
   cell = p.cell;
   motion = record {
     turn = p.motion.turn;
-    dx = (p.motion.dx +ℤ ((pos right *ℤ p.column_step.x) -ℤ (pos left *ℤ p.column_step.x))) +ℤ
-        ((pos up *ℤ p.row_step.x) -ℤ (pos down *ℤ p.row_step.x));
-    dy = (p.motion.dy +ℤ ((pos right *ℤ p.column_step.y) -ℤ (pos left *ℤ p.column_step.y))) +ℤ
-        ((pos up *ℤ p.row_step.y) -ℤ (pos down *ℤ p.row_step.y));
+    dx = (p.motion.dx +ℤ offset s.columns p.column_step.x) +ℤ offset s.rows p.row_step.x;
+    dy = (p.motion.dy +ℤ offset s.columns p.column_step.y) +ℤ offset s.rows p.row_step.y;
   };
-  columns = columns;
-  rows = rows;
+  columns = s.columns.count;
+  rows = s.rows.count;
   column_step = p.column_step;
   row_step = p.row_step;
 }
 
--- the rows above, the rows below, what is right and what is left in the row
+-- so many elements from some steps ahead, or from some steps back
+abbrev pub ahead : ℕ → ℕ → Shift
+ahead steps count = record { ahead = steps; back = 0; count = count }
+
+abbrev pub back : ℕ → ℕ → Shift
+back steps count = record { ahead = 0; back = steps; count = count }
+
+-- shifted rows, as seen from each of their columns
+abbrev pub all_columns : Place → Shift → Place
+all_columns p rows =
+    around p (record { rows = rows; columns = back (p.columns - 1) (2 * p.columns - 1) })
+
+-- what is right and what is left in the row
+abbrev pub row_siblings : Place → List Place
+row_siblings p =
+    around p (record { rows = ahead 0 1; columns = ahead 1 (p.columns - 1) })
+    ∷ around p (record { rows = ahead 0 1; columns = back (p.columns - 1) (p.columns - 1) })
+    ∷ []
+
+-- the rows above, the rows below, and these
 abbrev pub siblings : Place → List Place
 siblings p =
-    around p 1 0 0 (p.columns - 1) (p.rows - 1) (2 * p.columns - 1)
-    ∷ around p 0 (p.rows - 1) 0 (p.columns - 1) (p.rows - 1) (2 * p.columns - 1)
-    ∷ around p 0 0 1 0 1 (p.columns - 1)
-    ∷ around p 0 0 0 (p.columns - 1) 1 (p.columns - 1)
-    ∷ []
+    all_columns p (ahead 1 (p.rows - 1))
+    ∷ all_columns p (back (p.rows - 1) (p.rows - 1))
+    ∷ row_siblings p
 
 -- an element of one of these brings a flat square of the cell to where the first element takes q
 pub record IsBroughtBy (d : Linked) (p : Place) (key : LayerKey) (q : Square)
@@ -82,19 +103,19 @@ SomeBring d vs key window old new = (s : Square) → (covers new s ≡ true)
     ↔ ((covers old s ≡ true) ⊎ ((has window s ≡ true) × Some_of (λ v. IsBroughtTo d v key s) vs))
 
 -- shifts by whole rows and columns that stay near
-pub record AreShifts (p : Place) (up down right left rows columns : ℕ) : Type 0 where
-  pub along : (up ≡ 0) ⊎ (down ≡ 0)
-  pub across : (right ≡ 0) ⊎ (left ≡ 0)
-  pub up_in : up < p.rows
-  pub down_in : down < p.rows
-  pub right_in : right < p.columns
-  pub left_in : left < p.columns
-  pub rows_in : rows ≤ p.rows
-  pub columns_in : columns < 2 * p.columns
+pub record AreShifts (p : Place) (s : Shifts) : Type 0 where
+  pub along : (s.rows.ahead ≡ 0) ⊎ (s.rows.back ≡ 0)
+  pub across : (s.columns.ahead ≡ 0) ⊎ (s.columns.back ≡ 0)
+  pub up_in : s.rows.ahead < p.rows
+  pub down_in : s.rows.back < p.rows
+  pub right_in : s.columns.ahead < p.columns
+  pub left_in : s.columns.back < p.columns
+  pub rows_in : s.rows.count ≤ p.rows
+  pub columns_in : s.columns.count < 2 * p.columns
 
--- shifts by whole rows that stay near
-pub record AreRowShifts (p : Place) (up down rows : ℕ) : Type 0 where
-  pub along : (up ≡ 0) ⊎ (down ≡ 0)
-  pub up_in : up < p.rows
-  pub down_in : down < p.rows
-  pub rows_in : rows ≤ p.rows
+-- a shift by whole rows that stays near
+pub record IsRowShift (p : Place) (s : Shift) : Type 0 where
+  pub along : (s.ahead ≡ 0) ⊎ (s.back ≡ 0)
+  pub up_in : s.ahead < p.rows
+  pub down_in : s.back < p.rows
+  pub rows_in : s.count ≤ p.rows

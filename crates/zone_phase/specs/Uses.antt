@@ -7,6 +7,7 @@ use Rattle.cell_graph.specs.declared.cells.Place.{Place}
 use Rattle.cell_graph.specs.Linked.{Linked, plain, cell_at, places_at}
 use Rattle.deep_tables.specs.Entries.{downward_cell}
 use Rattle.zone_phase.specs.declared.uses.Use.{Use}
+use Rattle.zone_phase.specs.declared.uses.UsedCell.{UsedCell}
 
 abbrev pub lists_of : List (Vec Use) → List (List Use)
 lists_of lists = map (λ v. v.items) lists
@@ -71,3 +72,9 @@ pub record AreUsesOf (d : Linked) (cell : ℕ) (uses : List Use) : Type 0 where
   pub all : (parent i : ℕ) (p : Place) → IsReached (plain d) parent
       → slice_get (places_at (cell_at d parent)) i ≡ Some p → p.cell ≡ cell
       → (j : ℕ) × (downward_cell d j ≡ parent) × HasUse uses j i
+
+-- these are the references to the cell, which is there, and the margin is no more than rules reach
+pub record IsUsed (c : UsedCell) : Type 0 where
+  pub cell : c.cell < length c.design.now.cells
+  pub uses : AreUsesOf c.design.now c.cell c.uses.now
+  pub margin : c.margin ≤ 20001

@@ -6,11 +6,12 @@ ghost use Rattle.cell_graph.specs.Linked.{IsFrame, IsRectWithin, cell_at, own_of
 ghost use Rattle.cell_context.specs.Arrays.{IsNearArray};
 ghost use Rattle.zone_phase.specs.Pulls.{Adds, OnRects, OnRectsIn, BesideIn};
 
+use crate::frame::Frame;
 use crate::pulls::push_pulled;
 use cell_context::{gather, push_pieces};
-use cell_graph::{Design, Place};
+use cell_graph::Place;
 use deep_tables::IndexedSet;
-use geo_base::{LayerKey, Rect};
+use geo_base::Rect;
 use std::alloc::{AllocError, Global};
 
 // Adds the squares of a hull that some element takes onto rectangles.
@@ -68,30 +69,28 @@ pub fn push_among(
 pub fn push_own(
     alloc: Global,
     out: &mut Vec<Rect>,
-    design: &Design,
+    frame: &Frame<'_>,
     parent: u32,
     place: &Place,
-    key: LayerKey,
-    hull: &Rect,
     windows: &[Rect],
 ) -> Result<(), AllocError>
-    requires parent { parent < length design.now.cells }
+    requires parent { parent < length frame.now.design.now.cells }
     requires near { IsNearArray place.now }
     requires some { 0 < place.now.columns }
-    requires hull { IsFrame hull.now }
+    requires hull { IsFrame frame.now.grown }
     requires within { All (IsRectWithin (2 ^ 39)) windows.now }
     requires rects { All IsRect out.old.items }
     ensures rects { OnOk result (All IsRect out.new.items) }
-    ensures exact { OnOk result (Adds place.now hull.now
-        (OnRectsIn windows.now place.now (own_of (cell_at design.now parent) key)) out.old.items
+    ensures exact { OnOk result (Adds place.now frame.now.grown (OnRectsIn windows.now place.now
+        (own_of (cell_at frame.now.design.now parent) frame.now.key)) out.old.items
         out.new.items) }
 {
-    let own = design.own(parent, key).rects();
+    let own = frame.design.own(parent, frame.key).rects();
     for window in windows {
-        let near = design.own_in(alloc, parent, key, *window)?;
+        let near = frame.design.own_in(alloc, parent, frame.key, *window)?;
         let mut pieces = Vec::new(alloc);
         push_pieces(&mut pieces, own, &near, window)?;
-        push_onto(alloc, out, place, hull, &pieces)?;
+        push_onto(alloc, out, place, &frame.grown, &pieces)?;
     }
     Ok(())
 }
@@ -101,27 +100,25 @@ pub fn push_own(
 pub fn push_beside(
     alloc: Global,
     out: &mut Vec<Rect>,
-    design: &Design,
+    frame: &Frame<'_>,
     parent: u32,
     index: usize,
     place: &Place,
-    key: LayerKey,
-    hull: &Rect,
     windows: &[Rect],
 ) -> Result<(), AllocError>
-    requires parent { parent < length design.now.cells }
+    requires parent { parent < length frame.now.design.now.cells }
     requires near { IsNearArray place.now }
     requires some { 0 < place.now.columns }
-    requires hull { IsFrame hull.now }
+    requires hull { IsFrame frame.now.grown }
     requires within { All (IsRectWithin (2 ^ 39)) windows.now }
     requires rects { All IsRect out.old.items }
     ensures rects { OnOk result (All IsRect out.new.items) }
-    ensures exact { OnOk result (Adds place.now hull.now (BesideIn windows.now design.now parent
-        index key place.now) out.old.items out.new.items) }
+    ensures exact { OnOk result (Adds place.now frame.now.grown (BesideIn windows.now
+        frame.now.design.now parent index frame.now.key place.now) out.old.items out.new.items) }
 {
     for window in windows {
-        let rects = gather(alloc, design, parent, key, window, Some(index))?;
-        push_onto(alloc, out, place, hull, &rects)?;
+        let rects = gather(alloc, frame.design, parent, frame.key, window, Some(index))?;
+        push_onto(alloc, out, place, &frame.grown, &rects)?;
     }
     Ok(())
 }

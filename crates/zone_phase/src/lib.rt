@@ -1,8 +1,10 @@
-//! Disturbed squares of each cell, from the cells that place it.
+//! Disturbed squares of each cell, from the cells that place it: where, in some placement, shapes
+//! from outside the cell lie over it.
 #![tactic(auto)]
 
 mod beside;
 mod devices;
+mod frame;
 mod laws;
 mod names;
 mod neighbours;

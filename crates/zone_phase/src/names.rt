@@ -1,5 +1,5 @@
 //! A cell's disturbed squares for each name of the rules.
-ghost use Rattle.std.specs.Prelude.{◌≡◌, ◌<◌, ◌≤◌, ◌∷◌, [], ◌++◌, ℕ, List, get_or, length, IfOk};
+ghost use Rattle.std.specs.Prelude.{◌≡◌, ◌∷◌, [], ◌++◌, ℕ, List, get_or, length, IfOk};
 ghost use Rattle.std.specs.Prelude.{OnOk};
 ghost use Rattle.std.specs.List.{All};
 ghost use Rattle.cell_graph.specs.Linked.{Linked};
@@ -10,13 +10,12 @@ ghost use Rattle.rule_layers.specs.Formulas.{formula_by, formulas};
 ghost use Rattle.zone_phase.specs.Jobs.{MayRead};
 ghost use Rattle.zone_phase.specs.Names.{AreNameZones, HaveForm, HaveInputs};
 ghost use Rattle.zone_phase.specs.Neighbours.{AreNear};
-ghost use Rattle.zone_phase.specs.Uses.{AreUsesOf};
+ghost use Rattle.zone_phase.specs.Uses.{IsUsed};
 
 use crate::neighbours::{Neighbour, neighbours_of};
 use crate::unions::{set_at, with_name};
-use crate::uses::Use;
+use crate::uses::UsedCell;
 use crate::zones::key_zone;
-use cell_graph::Design;
 use deep_tables::CellZones;
 use job_graph::Reads;
 use rect_sets::RectSet;
@@ -49,32 +48,26 @@ fn one_zone(alloc: Global, sets: &[RectSet], a: u32) -> Result<RectSet, AllocErr
 // A name's disturbed squares, over those of the names before it.
 fn form_zone<R: Reads<CellZones>>(
     alloc: Global,
-    design: &Design,
+    used: &UsedCell<'_>,
     reads: &R,
-    uses: &[Use],
-    cell: u32,
     name: usize,
     form: LayerForm,
     before: &[RectSet],
     neighbours: &[Neighbour],
-    margin: u32,
 ) -> Result<RectSet, AllocError>
-    requires neighbours { AreNear margin design.now cell uses.now neighbours.now }
-    requires cell { cell < length design.now.cells }
-    requires uses { AreUsesOf design.now cell uses.now }
-    requires margin { margin ≤ 20001 }
-    requires may { MayRead (R.may_read reads.now) uses.now }
-    requires entries { HaveForm margin design.now (R.value reads.now) name uses.now form }
+    requires used { IsUsed used.now }
+    requires neighbours { AreNear used.now.margin used.now.design.now used.now.cell
+        used.now.uses.now neighbours.now }
+    requires may { MayRead (R.may_read reads.now) used.now.uses.now }
+    requires entries { HaveForm used.now.margin used.now.design.now (R.value reads.now) name
+        used.now.uses.now form }
     ensures { IfOk result (λ r. (trees : List Formula)
-        → AreNameZones margin design.now cell trees before.now
-        → IsFramedZone margin design.now (inputs (formula_by trees form)) cell r) }
+        → AreNameZones used.now.margin used.now.design.now used.now.cell trees before.now
+        → IsFramedZone used.now.margin used.now.design.now (inputs (formula_by trees form))
+        used.now.cell r) }
 {
     match form {
-        LayerForm::Input(key) => {
-            key_zone(
-                alloc, design, reads, uses, name, cell, key, neighbours, margin,
-            )
-        }
+        LayerForm::Input(key) => key_zone(alloc, used, reads, name, key, neighbours),
         LayerForm::Labels(_) => Ok(RectSet::empty(alloc)),
         LayerForm::Empty => Ok(RectSet::empty(alloc)),
         LayerForm::Binary(_, a, b) => two_zones(alloc, before, a, b),
@@ -99,39 +92,23 @@ pub fn push_set(sets: &mut Vec<RectSet>, set: RectSet) -> Result<(), AllocError>
 /// differently, and each other name a union.
 pub fn name_zones<R: Reads<CellZones>>(
     alloc: Global,
-    design: &Design,
+    used: &UsedCell<'_>,
     reads: &R,
-    uses: &[Use],
-    cell: u32,
     names: &[LayerRule],
-    margin: u32,
 ) -> Result<Vec<RectSet>, AllocError>
-    requires cell { cell < length design.now.cells }
-    requires uses { AreUsesOf design.now cell uses.now }
-    requires margin { margin ≤ 20001 }
-    requires may { MayRead (R.may_read reads.now) uses.now }
-    requires entries { HaveInputs margin design.now (R.value reads.now) (formulas names.now)
-        uses.now }
+    requires used { IsUsed used.now }
+    requires may { MayRead (R.may_read reads.now) used.now.uses.now }
+    requires entries { HaveInputs used.now.margin used.now.design.now (R.value reads.now)
+        (formulas names.now) used.now.uses.now }
     ensures count { IfOk result (λ v. length v.items ≡ length (formulas names.now)) }
-    ensures zones { IfOk result (λ v. AreNameZones margin design.now cell (formulas names.now)
-        v.items) }
+    ensures zones { IfOk result (λ v. AreNameZones used.now.margin used.now.design.now used.now.cell
+        (formulas names.now) v.items) }
     ensures canonical { IfOk result (λ v. All IsCanonical v.items) }
 {
-    let neighbours = neighbours_of(alloc, design, uses, cell, margin)?;
+    let neighbours = neighbours_of(alloc, used)?;
     let mut sets = Vec::new(alloc);
     for (name, rule) in names.iter().enumerate() {
-        let set = form_zone(
-            alloc,
-            design,
-            reads,
-            uses,
-            cell,
-            name,
-            rule.form,
-            &sets,
-            &neighbours,
-            margin,
-        )?;
+        let set = form_zone(alloc, used, reads, name, rule.form, &sets, &neighbours)?;
         push_set(&mut sets, set)?;
     }
     Ok(sets)

@@ -1,5 +1,5 @@
 //! What lies beside the placements of a cell: each way in which another placement lies there, once.
-ghost use Rattle.std.specs.Prelude.{◌≡◌, ◌↔◌, ◌<◌, ◌≤◌, ◌^◌, ℕ, true, [], length, Some, OnOk, IfOk};
+ghost use Rattle.std.specs.Prelude.{◌≡◌, ◌↔◌, ◌<◌, ◌^◌, ℕ, true, [], length, Some, OnOk, IfOk};
 ghost use Rattle.std.specs.Prelude.{slice_get};
 ghost use Rattle.geo_base.specs.Near.{IsNearMotion};
 ghost use Rattle.cell_graph.specs.Linked.{IsFrame, cell_at, hull_of, places_at};
@@ -8,13 +8,13 @@ ghost use Rattle.deep_tables.specs.Frames.{IsInGrown};
 ghost use Rattle.zone_phase.specs.Neighbours.{AreAllNear, AreNear, AreNeighbours, BringsMore};
 ghost use Rattle.zone_phase.specs.Neighbours.{IsAllNear, IsAlone, IsKnown, IsNearUse, IsPut};
 ghost use Rattle.zone_phase.specs.Neighbours.{IsRelative, Listed, StandAlike, StandsAgain, alone};
-ghost use Rattle.zone_phase.specs.Uses.{AreUsesOf, IsUse};
+ghost use Rattle.zone_phase.specs.Uses.{IsUse, IsUsed};
 ghost use Rattle.cell_context.specs.Arrays.{IsNearArray};
 
-use crate::uses::Use;
+use crate::uses::{Use, UsedCell};
 use crate::windows::element_rect;
 use cell_context::{Visit, grown, motion_at, visits};
-use cell_graph::{Design, Place};
+use cell_graph::Place;
 use geo_base::{Motion, Point, Rect, Turn};
 use std::alloc::{AllocError, Global};
 use std::collections::HashMap;
@@ -138,27 +138,28 @@ fn push_neighbour(memo: &mut Neighbours, place: &Place, visit: &Visit) -> Result
 fn push_around(
     alloc: Global,
     memo: &mut Neighbours,
-    design: &Design,
-    uses: &[Use],
+    used: &UsedCell<'_>,
     found: &Use,
     parent: u32,
     place: &Place,
     grown: &Rect,
 ) -> Result<(), AllocError>
-    requires found { Listed uses.now found.now }
-    requires parent { parent ≡ downward_cell design.now found.now.job }
-    requires there { slice_get (places_at (cell_at design.now parent)) found.now.index
+    requires found { Listed used.now.uses.now found.now }
+    requires parent { parent ≡ downward_cell used.now.design.now found.now.job }
+    requires there { slice_get (places_at (cell_at used.now.design.now parent)) found.now.index
         ≡ Some place.now }
-    requires inside { parent < length design.now.cells }
+    requires inside { parent < length used.now.design.now.cells }
     requires alone { IsAlone place.now }
     requires grown { IsFrame grown.now }
-    requires each { AreNeighbours design.now uses.now memo.old.list.items }
-    ensures each { OnOk result (AreNeighbours design.now uses.now memo.new.list.items) }
-    ensures more { OnOk result (BringsMore design.now memo.old.list.items memo.new.list.items) }
-    ensures all { OnOk result (IsAllNear design.now grown.now parent found.now.index place.now
+    requires each { AreNeighbours used.now.design.now used.now.uses.now memo.old.list.items }
+    ensures each { OnOk result (AreNeighbours used.now.design.now used.now.uses.now
         memo.new.list.items) }
+    ensures more { OnOk result (BringsMore used.now.design.now memo.old.list.items
+        memo.new.list.items) }
+    ensures all { OnOk result (IsAllNear used.now.design.now grown.now parent found.now.index
+        place.now memo.new.list.items) }
 {
-    let _ = uses;
+    let design = used.design;
     design.sound();
     let window = element_rect(place, 0, 0, grown);
     for visit in &visits(alloc, design, parent, &window, Some(found.index), 0)? {
@@ -213,23 +214,25 @@ fn is_again(uses: &[Use], at: usize, places: &[Place], place: &Place, known: Opt
 fn push_use(
     alloc: Global,
     memo: &mut Neighbours,
-    design: &Design,
-    uses: &[Use],
+    used: &UsedCell<'_>,
     at: usize,
     found: &Use,
-    cell: u32,
     grown: &Rect,
 ) -> Result<(), AllocError>
-    requires use_of { IsUse design.now cell found.now }
-    requires there { slice_get uses.now at ≡ Some found.now }
+    requires use_of { IsUse used.now.design.now used.now.cell found.now }
+    requires there { slice_get used.now.uses.now at ≡ Some found.now }
     requires grown { IsFrame grown.now }
-    requires each { AreNeighbours design.now uses.now memo.old.list.items }
-    requires near { AreAllNear design.now grown.now uses.now at memo.old.list.items }
-    ensures each { OnOk result (AreNeighbours design.now uses.now memo.new.list.items) }
-    ensures more { OnOk result (BringsMore design.now memo.old.list.items memo.new.list.items) }
-    ensures all { OnOk result (IsNearUse design.now grown.now found.now memo.new.list.items) }
+    requires each { AreNeighbours used.now.design.now used.now.uses.now memo.old.list.items }
+    requires near { AreAllNear used.now.design.now grown.now used.now.uses.now at
+        memo.old.list.items }
+    ensures each { OnOk result (AreNeighbours used.now.design.now used.now.uses.now
+        memo.new.list.items) }
+    ensures more { OnOk result (BringsMore used.now.design.now memo.old.list.items
+        memo.new.list.items) }
+    ensures all { OnOk result (IsNearUse used.now.design.now grown.now found.now
+        memo.new.list.items) }
 {
-    let _ = cell;
+    let design = used.design;
     design.sound();
     let order = design.order();
     let parent = order[order.len() - 1 - found.job as usize];
@@ -240,35 +243,34 @@ fn push_use(
     let motion = &place.motion;
     let key = (found.job, turn_number(motion.turn), motion.dx, motion.dy);
     let known = memo.stood.get(&key).copied();
-    if is_again(uses, at, design.places(parent), place, known) {
+    if is_again(used.uses, at, design.places(parent), place, known) {
         return Ok(());
     }
     memo.stood.insert(key, at)?;
-    push_around(alloc, memo, design, uses, found, parent, place, grown)?;
+    push_around(alloc, memo, used, found, parent, place, grown)?;
     Ok(())
 }
 
 // The neighbours at all uses of a cell.
 fn find_neighbours(
     alloc: Global,
-    design: &Design,
-    uses: &[Use],
-    cell: u32,
+    used: &UsedCell<'_>,
     grown: &Rect,
 ) -> Result<Vec<Neighbour>, AllocError>
-    requires uses { AreUsesOf design.now cell uses.now }
+    requires used { IsUsed used.now }
     requires grown { IsFrame grown.now }
-    ensures each { IfOk result (λ v. AreNeighbours design.now uses.now v.items) }
-    ensures all { IfOk result (λ v. AreAllNear design.now grown.now uses.now (length uses.now)
-        v.items) }
+    ensures each { IfOk result (λ v. AreNeighbours used.now.design.now used.now.uses.now v.items) }
+    ensures all { IfOk result (λ v. AreAllNear used.now.design.now grown.now used.now.uses.now
+        (length used.now.uses.now) v.items) }
 {
     let mut memo = Neighbours {
         list: Vec::new(alloc),
         positions: HashMap::new(alloc),
         stood: HashMap::new(alloc),
     };
+    let uses = used.uses;
     for at in 0..uses.len() {
-        push_use(alloc, &mut memo, design, uses, at, &uses[at], cell, grown)?;
+        push_use(alloc, &mut memo, used, at, &uses[at], grown)?;
     }
     let Neighbours { list, .. } = memo;
     Ok(list)
@@ -276,22 +278,16 @@ fn find_neighbours(
 
 /// The neighbours of the placements of a cell, of references of one placement each: one window of
 /// the parent for all that stand alike there, and of those that lie alike one.
-pub fn neighbours_of(
-    alloc: Global,
-    design: &Design,
-    uses: &[Use],
-    cell: u32,
-    margin: u32,
-) -> Result<Vec<Neighbour>, AllocError>
-    requires cell { cell < length design.now.cells }
-    requires uses { AreUsesOf design.now cell uses.now }
-    requires margin { margin ≤ 20001 }
-    ensures { IfOk result (λ v. AreNear margin design.now cell uses.now v.items) }
+pub fn neighbours_of(alloc: Global, used: &UsedCell<'_>) -> Result<Vec<Neighbour>, AllocError>
+    requires used { IsUsed used.now }
+    ensures { IfOk result (λ v. AreNear used.now.margin used.now.design.now used.now.cell
+        used.now.uses.now v.items) }
 {
+    let design = used.design;
     design.sound();
-    match design.hull(cell) {
+    match design.hull(used.cell) {
         Some(hull) => {
-            let list = find_neighbours(alloc, design, uses, cell, &grown(&hull, margin))?;
+            let list = find_neighbours(alloc, used, &grown(&hull, used.margin))?;
             Ok(list)
         }
         None => Ok(Vec::new(alloc)),

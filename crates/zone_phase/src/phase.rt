@@ -7,7 +7,7 @@ ghost use Rattle.zone_phase.specs.Graph.{AreParentJobs};
 use crate::devices::device_zones;
 use crate::names::name_zones;
 use crate::parents::parent_graph;
-use crate::uses::{Use, find_uses};
+use crate::uses::{Use, UsedCell, find_uses};
 use cell_graph::Design;
 use deep_tables::{CellZones, DeepKey};
 use job_graph::{Graph, Phase, Reads};
@@ -100,7 +100,13 @@ impl Phase for ZonePhase<'_> {
         let order = design.order();
         let cell = order[order.len() - 1 - job as usize];
         let uses = &self.uses[cell as usize];
-        let layers = name_zones(alloc, design, reads, uses, cell, &self.read, self.margin)?;
+        let used = UsedCell {
+            design,
+            cell,
+            uses,
+            margin: self.margin,
+        };
+        let layers = name_zones(alloc, &used, reads, &self.read)?;
         let devices = device_zones(alloc, &layers, self.rules)?;
         let zones = CellZones::new(alloc, layers, devices)?;
         Ok(zones)

@@ -1,13 +1,15 @@
 //! Squares of a cell that one reference of a parent brings onto what stands there.
 
-ghost use Rattle.std.specs.Prelude.{◌≡◌, ◌<◌, [], true, length, Some, OnOk, slice_get};
+ghost use Rattle.std.specs.Prelude.{◌≡◌, ◌<◌, [], true, length, OnOk};
 ghost use Rattle.std.specs.List.{All};
 ghost use Rattle.geo_base.specs.Rects.{IsRect};
-ghost use Rattle.cell_graph.specs.Linked.{IsFrame, cell_at, hull_of, own_of, places_at};
+ghost use Rattle.cell_graph.specs.Linked.{cell_at, own_of};
+ghost use Rattle.zone_phase.specs.Framed.{IsFramed, IsFramedReference};
 ghost use Rattle.zone_phase.specs.Neighbours.{IsAlone, WhyHere};
 ghost use Rattle.zone_phase.specs.Pulls.{Adds, Why};
 
 use crate::beside::{push_among, push_beside, push_own};
+use crate::frame::Frame;
 use crate::neighbours::is_alone;
 use crate::siblings::push_siblings;
 use crate::windows::windows;
@@ -30,27 +32,24 @@ fn is_calm(design: &Design, zone: &IndexedSet, cell: u32, key: LayerKey) -> bool
 fn push_alone(
     alloc: Global,
     out: &mut Vec<Rect>,
-    design: &Design,
+    frame: &Frame<'_>,
     zone: &IndexedSet,
     parent: u32,
     index: usize,
     place: &Place,
-    key: LayerKey,
-    grown: &Rect,
 ) -> Result<(), AllocError>
-    requires parent { parent < length design.now.cells }
-    requires there { slice_get (places_at (cell_at design.now parent)) index ≡ Some place.now }
+    requires reference { IsFramedReference frame.now parent index place.now }
     requires alone { IsAlone place.now }
-    requires grown { IsFrame grown.now }
+    requires frame { IsFramed frame.now }
     requires rects { All IsRect out.old.items }
     ensures rects { OnOk result (All IsRect out.new.items) }
-    ensures exact { OnOk result (Adds place.now grown.now
-        (WhyHere zone.now design.now parent index key place.now) out.old.items out.new.items) }
+    ensures exact { OnOk result (Adds place.now frame.now.grown (WhyHere zone.now
+        frame.now.design.now parent index frame.now.key place.now) out.old.items out.new.items) }
 {
-    design.sound();
-    let list = windows(alloc, place, grown)?;
-    push_among(alloc, out, place, grown, zone, &list)?;
-    push_own(alloc, out, design, parent, place, key, grown, &list)?;
+    frame.design.sound();
+    let list = windows(alloc, place, &frame.grown)?;
+    push_among(alloc, out, place, &frame.grown, zone, &list)?;
+    push_own(alloc, out, frame, parent, place, &list)?;
     Ok(())
 }
 
@@ -58,29 +57,24 @@ fn push_alone(
 fn push_array(
     alloc: Global,
     out: &mut Vec<Rect>,
-    design: &Design,
+    frame: &Frame<'_>,
     zone: &IndexedSet,
     parent: u32,
     index: usize,
     place: &Place,
-    key: LayerKey,
-    hull: &Rect,
-    grown: &Rect,
 ) -> Result<(), AllocError>
-    requires parent { parent < length design.now.cells }
-    requires there { slice_get (places_at (cell_at design.now parent)) index ≡ Some place.now }
-    requires hull { hull_of (cell_at design.now place.now.cell) ≡ Some hull.now }
-    requires grown { IsFrame grown.now }
+    requires reference { IsFramedReference frame.now parent index place.now }
+    requires frame { IsFramed frame.now }
     requires rects { All IsRect out.old.items }
     ensures rects { OnOk result (All IsRect out.new.items) }
-    ensures exact { OnOk result (Adds place.now grown.now
-        (Why zone.now design.now parent index key place.now) out.old.items out.new.items) }
+    ensures exact { OnOk result (Adds place.now frame.now.grown (Why zone.now
+        frame.now.design.now parent index frame.now.key place.now) out.old.items out.new.items) }
 {
-    design.sound();
-    let list = windows(alloc, place, grown)?;
-    push_among(alloc, out, place, grown, zone, &list)?;
-    push_beside(alloc, out, design, parent, index, place, key, grown, &list)?;
-    push_siblings(alloc, out, design, place, key, hull, grown)?;
+    frame.design.sound();
+    let list = windows(alloc, place, &frame.grown)?;
+    push_among(alloc, out, place, &frame.grown, zone, &list)?;
+    push_beside(alloc, out, frame, parent, index, place, &list)?;
+    push_siblings(alloc, out, frame, place)?;
     Ok(())
 }
 
@@ -89,32 +83,25 @@ fn push_array(
 pub fn push_reference(
     alloc: Global,
     out: &mut Vec<Rect>,
-    design: &Design,
+    frame: &Frame<'_>,
     zone: &IndexedSet,
     parent: u32,
     index: usize,
     place: &Place,
-    key: LayerKey,
-    hull: &Rect,
-    grown: &Rect,
 ) -> Result<(), AllocError>
-    requires parent { parent < length design.now.cells }
-    requires there { slice_get (places_at (cell_at design.now parent)) index ≡ Some place.now }
-    requires hull { hull_of (cell_at design.now place.now.cell) ≡ Some hull.now }
-    requires grown { IsFrame grown.now }
+    requires reference { IsFramedReference frame.now parent index place.now }
+    requires frame { IsFramed frame.now }
     requires rects { All IsRect out.old.items }
     ensures rects { OnOk result (All IsRect out.new.items) }
-    ensures exact { OnOk result (Adds place.now grown.now
-        (WhyHere zone.now design.now parent index key place.now) out.old.items out.new.items) }
+    ensures exact { OnOk result (Adds place.now frame.now.grown (WhyHere zone.now
+        frame.now.design.now parent index frame.now.key place.now) out.old.items out.new.items) }
 {
     if !is_alone(place) {
-        push_array(
-            alloc, out, design, zone, parent, index, place, key, hull, grown,
-        )?;
+        push_array(alloc, out, frame, zone, parent, index, place)?;
         return Ok(());
     }
-    if is_calm(design, zone, parent, key) {
+    if is_calm(frame.design, zone, parent, frame.key) {
         return Ok(());
     }
-    push_alone(alloc, out, design, zone, parent, index, place, key, grown)
+    push_alone(alloc, out, frame, zone, parent, index, place)
 }

@@ -14,9 +14,11 @@ ghost use Rattle.cell_context.specs.Arrays.{IsNearArray, IsCloseArray};
 ghost use Rattle.cell_context.specs.Over.{IsPiece};
 ghost use Rattle.deep_laws.specs.Zones.{IsFromSibling};
 ghost use Rattle.zone_phase.specs.Pulls.{Adds};
-ghost use Rattle.zone_phase.specs.Siblings.{around, siblings, Brings, SomeBring};
-ghost use Rattle.zone_phase.specs.Siblings.{AreShifts, AreRowShifts};
+ghost use Rattle.zone_phase.specs.Framed.{IsFramedArray};
+ghost use Rattle.zone_phase.specs.Siblings.{AreShifts, Brings, IsRowShift, SomeBring, all_columns};
+ghost use Rattle.zone_phase.specs.Siblings.{around, offset, row_siblings, siblings};
 
+use crate::frame::Frame;
 use crate::windows::element_rect;
 use cell_context::{gather, motion_at, place_visits, push_images};
 use cell_graph::{Design, Place};
@@ -57,79 +59,64 @@ fn closer(a: i64, b: i64) -> i64
     a + b
 }
 
-// Some steps ahead and some back.
-fn offset(ahead: u32, back: u32, step: i64) -> i64
-    requires ahead { IsWithin (2 ^ 37) (pos ahead *ℤ step) }
-    requires back { IsWithin (2 ^ 37) (pos back *ℤ step) }
-    ensures exact { result ≡ (pos ahead *ℤ step) -ℤ (pos back *ℤ step) }
-    ensures near { IsWithin (2 ^ 38) result }
-{
-    less(times(ahead, step), times(back, step))
+/// Whole steps from where an array begins, ahead or back, and so many elements from there.
+#[derive(Clone, Copy)]
+pub struct Shift {
+    pub ahead: u32,
+    pub back: u32,
+    pub count: u16,
 }
 
-fn begun(
-    start: i64,
-    right: u32,
-    left: u32,
-    column_step: i64,
-    up: u32,
-    down: u32,
-    row_step: i64,
-) -> i64
-    requires start { IsWithin (2 ^ 36) start }
-    requires right { IsWithin (2 ^ 37) (pos right *ℤ column_step) }
-    requires left { IsWithin (2 ^ 37) (pos left *ℤ column_step) }
-    requires up { IsWithin (2 ^ 37) (pos up *ℤ row_step) }
-    requires down { IsWithin (2 ^ 37) (pos down *ℤ row_step) }
-    ensures { result ≡ (start +ℤ ((pos right *ℤ column_step) -ℤ (pos left *ℤ column_step))) +ℤ
-        ((pos up *ℤ row_step) -ℤ (pos down *ℤ row_step)) }
+/// The shifts of an array's rows and of its columns.
+#[derive(Clone, Copy)]
+pub struct Shifts {
+    pub rows: Shift,
+    pub columns: Shift,
+}
+
+// How far a shift leads.
+fn offset(shift: Shift, step: i64) -> i64
+    requires ahead { IsWithin (2 ^ 37) (pos shift.ahead *ℤ step) }
+    requires back { IsWithin (2 ^ 37) (pos shift.back *ℤ step) }
+    ensures exact { result ≡ offset shift step }
+    ensures near { IsWithin (2 ^ 38) result }
 {
-    let across = offset(right, left, column_step);
-    let along = offset(up, down, row_step);
+    less(times(shift.ahead, step), times(shift.back, step))
+}
+
+fn begun(start: i64, shifts: Shifts, column_step: i64, row_step: i64) -> i64
+    requires start { IsWithin (2 ^ 36) start }
+    requires right { IsWithin (2 ^ 37) (pos shifts.columns.ahead *ℤ column_step) }
+    requires left { IsWithin (2 ^ 37) (pos shifts.columns.back *ℤ column_step) }
+    requires up { IsWithin (2 ^ 37) (pos shifts.rows.ahead *ℤ row_step) }
+    requires down { IsWithin (2 ^ 37) (pos shifts.rows.back *ℤ row_step) }
+    ensures { result ≡ (start +ℤ offset shifts.columns column_step) +ℤ
+        offset shifts.rows row_step }
+{
+    let across = offset(shifts.columns, column_step);
+    let along = offset(shifts.rows, row_step);
     more(closer(start, across), along)
 }
 
 // The array, begun so many rows and columns further on or back.
-fn around(
-    place: &Place,
-    up: u32,
-    down: u32,
-    right: u32,
-    left: u32,
-    rows: u16,
-    columns: u16,
-) -> Place
+fn around(place: &Place, shifts: Shifts) -> Place
     requires close { IsCloseArray place.now }
-    requires shifts { AreShifts place.now up down right left rows columns }
-    ensures { result ≡ around place.now up down right left rows columns }
+    requires shifts { AreShifts place.now shifts }
+    ensures { result ≡ around place.now shifts }
 {
+    let column_step = place.column_step;
+    let row_step = place.row_step;
     Place {
         cell: place.cell,
         motion: Motion {
             turn: place.motion.turn,
-            dx: begun(
-                place.motion.dx,
-                right,
-                left,
-                place.column_step.x,
-                up,
-                down,
-                place.row_step.x,
-            ),
-            dy: begun(
-                place.motion.dy,
-                right,
-                left,
-                place.column_step.y,
-                up,
-                down,
-                place.row_step.y,
-            ),
+            dx: begun(place.motion.dx, shifts, column_step.x, row_step.x),
+            dy: begun(place.motion.dy, shifts, column_step.y, row_step.y),
         },
-        columns,
-        rows,
-        column_step: place.column_step,
-        row_step: place.row_step,
+        columns: shifts.columns.count,
+        rows: shifts.rows.count,
+        column_step,
+        row_step,
     }
 }
 
@@ -166,33 +153,24 @@ pub fn push_brought(
 fn push_around(
     alloc: Global,
     there: &mut Vec<Rect>,
-    design: &Design,
+    frame: &Frame<'_>,
     place: &Place,
-    key: LayerKey,
-    hull: &Rect,
     window: &Rect,
-    up: u32,
-    down: u32,
-    right: u32,
-    left: u32,
-    rows: u16,
-    columns: u16,
+    shifts: Shifts,
 ) -> Result<(), AllocError>
-    requires close { IsCloseArray place.now }
-    requires shifts { 0 < rows → 0 < columns → AreShifts place.now up down right left rows columns }
-    requires cell { place.now.cell < length design.now.cells }
-    requires hull { hull_of (cell_at design.now place.now.cell) ≡ Some hull.now }
-    requires frame { IsFrame hull.now }
+    requires array { IsFramedArray frame.now place.now }
+    requires shifts { 0 < shifts.rows.count → 0 < shifts.columns.count
+        → AreShifts place.now shifts }
     requires window { IsRectWithin (2 ^ 39) window.now }
     requires pieces { All (IsPiece window.now) there.old.items }
     ensures pieces { OnOk result (All (IsPiece window.now) there.new.items) }
-    ensures exact { OnOk result (Brings design.now
-        (around place.now up down right left rows columns) key window.now there.old.items
-        there.new.items) }
+    ensures exact { OnOk result (Brings frame.now.design.now (around place.now shifts)
+        frame.now.key window.now there.old.items there.new.items) }
 {
-    if rows > 0 && columns > 0 {
-        let other = around(place, up, down, right, left, rows, columns);
-        push_brought(alloc, there, design, &other, key, hull, window)?;
+    if shifts.rows.count > 0 && shifts.columns.count > 0 {
+        let other = around(place, shifts);
+        let hull = &frame.hull;
+        push_brought(alloc, there, frame.design, &other, frame.key, hull, window)?;
     }
     Ok(())
 }
@@ -202,59 +180,76 @@ fn push_around(
 fn push_rows(
     alloc: Global,
     there: &mut Vec<Rect>,
-    design: &Design,
+    frame: &Frame<'_>,
     place: &Place,
-    key: LayerKey,
-    hull: &Rect,
     window: &Rect,
-    up: u32,
-    down: u32,
-    rows: u16,
+    rows: Shift,
 ) -> Result<(), AllocError>
-    requires close { IsCloseArray place.now }
-    requires columns { 0 < place.now.columns }
-    requires shifts { 0 < rows → AreRowShifts place.now up down rows }
-    requires cell { place.now.cell < length design.now.cells }
-    requires hull { hull_of (cell_at design.now place.now.cell) ≡ Some hull.now }
-    requires frame { IsFrame hull.now }
+    requires array { IsFramedArray frame.now place.now }
+    requires shift { 0 < rows.count → IsRowShift place.now rows }
     requires window { IsRectWithin (2 ^ 39) window.now }
     requires pieces { All (IsPiece window.now) there.old.items }
     ensures pieces { OnOk result (All (IsPiece window.now) there.new.items) }
-    ensures exact { OnOk result (Brings design.now
-        (around place.now up down 0 (place.now.columns - 1) rows (2 * place.now.columns - 1)) key
-        window.now there.old.items there.new.items) }
+    ensures exact { OnOk result (Brings frame.now.design.now (all_columns place.now rows)
+        frame.now.key window.now there.old.items there.new.items) }
 {
     let left = place.columns - 1;
-    push_around(
-        alloc,
-        there,
-        design,
-        place,
-        key,
-        hull,
-        window,
-        up,
-        down,
-        0,
-        left as u32,
+    let columns = Shift {
+        ahead: 0,
+        back: left as u32,
+        count: left,
+    };
+    push_around(alloc, there, frame, place, window, Shifts { rows, columns })?;
+    let columns = Shift {
+        ahead: 0,
+        back: 0,
+        count: place.columns,
+    };
+    push_around(alloc, there, frame, place, window, Shifts { rows, columns })?;
+    Ok(())
+}
+
+// Adds what the other elements of its row bring, as seen from each element.
+fn push_row(
+    alloc: Global,
+    there: &mut Vec<Rect>,
+    frame: &Frame<'_>,
+    place: &Place,
+    window: &Rect,
+) -> Result<(), AllocError>
+    requires array { IsFramedArray frame.now place.now }
+    requires window { IsRectWithin (2 ^ 39) window.now }
+    requires pieces { All (IsPiece window.now) there.old.items }
+    ensures pieces { OnOk result (All (IsPiece window.now) there.new.items) }
+    ensures exact { OnOk result (SomeBring frame.now.design.now (row_siblings place.now)
+        frame.now.key window.now there.old.items there.new.items) }
+{
+    let columns = place.columns - 1;
+    let rows = Shift {
+        ahead: 0,
+        back: 0,
+        count: 1,
+    };
+    let right = Shift {
+        ahead: 1,
+        back: 0,
+        count: columns,
+    };
+    let left = Shift {
+        ahead: 0,
+        back: columns as u32,
+        count: columns,
+    };
+    let right = Shifts {
         rows,
-        left,
-    )?;
-    push_around(
-        alloc,
-        there,
-        design,
-        place,
-        key,
-        hull,
-        window,
-        up,
-        down,
-        0,
-        0,
+        columns: right,
+    };
+    push_around(alloc, there, frame, place, window, right)?;
+    let left = Shifts {
         rows,
-        place.columns,
-    )?;
+        columns: left,
+    };
+    push_around(alloc, there, frame, place, window, left)?;
     Ok(())
 }
 
@@ -263,57 +258,31 @@ fn push_rows(
 fn push_others(
     alloc: Global,
     there: &mut Vec<Rect>,
-    design: &Design,
+    frame: &Frame<'_>,
     place: &Place,
-    key: LayerKey,
-    hull: &Rect,
     window: &Rect,
 ) -> Result<(), AllocError>
-    requires close { IsCloseArray place.now }
-    requires rows { 0 < place.now.rows }
-    requires columns { 0 < place.now.columns }
-    requires cell { place.now.cell < length design.now.cells }
-    requires hull { hull_of (cell_at design.now place.now.cell) ≡ Some hull.now }
-    requires frame { IsFrame hull.now }
+    requires array { IsFramedArray frame.now place.now }
     requires window { IsRectWithin (2 ^ 39) window.now }
     requires pieces { All (IsPiece window.now) there.old.items }
     ensures pieces { OnOk result (All (IsPiece window.now) there.new.items) }
-    ensures exact { OnOk result (SomeBring design.now (siblings place.now) key window.now
-        there.old.items there.new.items) }
+    ensures exact { OnOk result (SomeBring frame.now.design.now (siblings place.now) frame.now.key
+        window.now there.old.items there.new.items) }
 {
     let rows = place.rows - 1;
-    let columns = place.columns - 1;
-    push_rows(alloc, there, design, place, key, hull, window, 1, 0, rows)?;
-    push_rows(
-        alloc,
-        there,
-        design,
-        place,
-        key,
-        hull,
-        window,
-        0,
-        rows as u32,
-        rows,
-    )?;
-    push_around(
-        alloc, there, design, place, key, hull, window, 0, 0, 1, 0, 1, columns,
-    )?;
-    push_around(
-        alloc,
-        there,
-        design,
-        place,
-        key,
-        hull,
-        window,
-        0,
-        0,
-        0,
-        columns as u32,
-        1,
-        columns,
-    )?;
+    let above = Shift {
+        ahead: 1,
+        back: 0,
+        count: rows,
+    };
+    push_rows(alloc, there, frame, place, window, above)?;
+    let below = Shift {
+        ahead: 0,
+        back: rows as u32,
+        count: rows,
+    };
+    push_rows(alloc, there, frame, place, window, below)?;
+    push_row(alloc, there, frame, place, window)?;
     Ok(())
 }
 
@@ -321,32 +290,24 @@ fn push_others(
 pub fn push_siblings(
     alloc: Global,
     out: &mut Vec<Rect>,
-    design: &Design,
+    frame: &Frame<'_>,
     place: &Place,
-    key: LayerKey,
-    hull: &Rect,
-    grown: &Rect,
 ) -> Result<(), AllocError>
-    requires close { IsCloseArray place.now }
+    requires array { IsFramedArray frame.now place.now }
     requires near { IsNearArray place.now }
-    requires rows { 0 < place.now.rows }
-    requires columns { 0 < place.now.columns }
-    requires cell { place.now.cell < length design.now.cells }
-    requires hull { hull_of (cell_at design.now place.now.cell) ≡ Some hull.now }
-    requires frame { IsFrame hull.now }
-    requires grown { IsFrame grown.now }
+    requires grown { IsFrame frame.now.grown }
     requires rects { All IsRect out.old.items }
     ensures rects { OnOk result (All IsRect out.new.items) }
-    ensures exact { OnOk result (Adds place.now grown.now
-        (λ row column q. IsFromSibling design.now place.now row column key q) out.old.items
-        out.new.items) }
+    ensures exact { OnOk result (Adds place.now frame.now.grown
+        (λ row column q. IsFromSibling frame.now.design.now place.now row column frame.now.key q)
+        out.old.items out.new.items) }
 {
     let first = motion_at(place, 0, 0);
-    let window = element_rect(place, 0, 0, grown);
+    let window = element_rect(place, 0, 0, &frame.grown);
     let mut there = Vec::new(alloc);
-    push_others(alloc, &mut there, design, place, key, hull, &window)?;
+    push_others(alloc, &mut there, frame, place, &window)?;
     let mut more = Vec::new(alloc);
-    push_images(&mut more, &there, &first.inverse(), grown)?;
+    push_images(&mut more, &there, &first.inverse(), &frame.grown)?;
     out.extend_from_slice(&more)?;
     Ok(())
 }

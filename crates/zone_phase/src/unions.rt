@@ -6,7 +6,6 @@ ghost use Rattle.deep_tables.specs.Frames.{IsFramedZone};
 ghost use Rattle.flat_layout.specs.Layers.{Formula, Empty, inputs};
 ghost use Rattle.zone_phase.specs.Names.{AreNameZones};
 
-use edge_boolean::combine;
 use geo_base::Op;
 use rect_sets::RectSet;
 use std::alloc::{AllocError, Global};
@@ -18,7 +17,7 @@ pub fn both_zones(alloc: Global, a: &RectSet, b: &RectSet) -> Result<RectSet, Al
         → IsFramedZone n d xs cell a.now → IsFramedZone n d ys cell b.now
         → IsFramedZone n d (xs ++ ys) cell r) }
 {
-    let set = combine(alloc, a, b, Op::Or)?;
+    let set = a.combined(alloc, b, Op::Or)?;
     Ok(set)
 }
 

@@ -12,6 +12,15 @@ pub struct Use {
     pub index: usize,
 }
 
+/// A cell with the references to it, and how far around it its disturbed squares are looked for.
+#[derive(Clone, Copy)]
+pub struct UsedCell<'a> {
+    pub design: &'a Design,
+    pub cell: u32,
+    pub uses: &'a [Use],
+    pub margin: u32,
+}
+
 // An empty list for each cell.
 fn no_uses(alloc: Global, cells: u32) -> Result<Vec<Vec<Use>>, AllocError>
     ensures count { IfOk result (λ v. length (lists_of v.items) ≡ cells) }

@@ -3,10 +3,10 @@
 ghost use Rattle.std.specs.Prelude.{◌≡◌, ◌<◌, ◌^◌, ℕ, ◌≤ℤ◌, true, OnOk, IfOk};
 ghost use Rattle.std.specs.List.{All};
 ghost use Rattle.geo_base.specs.Near.{IsWithin};
-ghost use Rattle.geo_base.specs.Rects.{has, moved_rect};
+ghost use Rattle.geo_base.specs.Rects.{has, moved_rect, IsInside};
 ghost use Rattle.geo_base.specs.declared.shapes.Square.{Square};
 ghost use Rattle.rect_sets.specs.Rects.{covers};
-ghost use Rattle.cell_graph.specs.Linked.{IsFrame, IsInside, IsRectWithin, motion_at};
+ghost use Rattle.cell_graph.specs.Linked.{IsFrame, IsRectWithin, motion_at};
 ghost use Rattle.cell_context.specs.Arrays.{IsCloseArray};
 ghost use Rattle.zone_phase.specs.Pulls.{OnRects, AreCovering};
 
@@ -14,26 +14,6 @@ use cell_context::motion_at;
 use cell_graph::Place;
 use geo_base::Rect;
 use std::alloc::{AllocError, Global};
-
-fn lower(a: i64, b: i64) -> i64
-    requires a { IsWithin (2 ^ 39) a }
-    requires b { IsWithin (2 ^ 39) b }
-    ensures first { result ≤ℤ a }
-    ensures second { result ≤ℤ b }
-    ensures near { IsWithin (2 ^ 39) result }
-{
-    if a < b { a } else { b }
-}
-
-fn upper(a: i64, b: i64) -> i64
-    requires a { IsWithin (2 ^ 39) a }
-    requires b { IsWithin (2 ^ 39) b }
-    ensures first { a ≤ℤ result }
-    ensures second { b ≤ℤ result }
-    ensures near { IsWithin (2 ^ 39) result }
-{
-    if a < b { b } else { a }
-}
 
 // What an element makes of a hull.
 pub fn element_rect(place: &Place, row: u32, column: u32, hull: &Rect) -> Rect
@@ -56,12 +36,7 @@ fn bounds(a: &Rect, b: &Rect) -> Rect
     ensures second { IsInside b.now result }
     ensures near { IsRectWithin (2 ^ 39) result }
 {
-    Rect {
-        x1: lower(a.x1, b.x1),
-        y1: lower(a.y1, b.y1),
-        x2: upper(a.x2, b.x2),
-        y2: upper(a.y2, b.y2),
-    }
+    a.bounding_box(b)
 }
 
 // Whether the elements of a row fill at least half of the rectangle round them.

@@ -1,11 +1,11 @@
 //! A cell's disturbed squares for one input layer.
-ghost use Rattle.std.specs.Prelude.{◌≡◌, ◌↔◌, ◌⊎◌, ◌<◌, ◌≤◌, true, ℕ, length, Some, OnOk, IfOk};
+ghost use Rattle.std.specs.Prelude.{◌≡◌, ◌↔◌, ◌⊎◌, true, length, Some, OnOk, IfOk};
 ghost use Rattle.std.specs.Prelude.{IsSomeAnd, [], ◌∷◌};
 ghost use Rattle.std.specs.List.{All};
 ghost use Rattle.geo_base.specs.Rects.{IsRect};
 ghost use Rattle.geo_base.specs.declared.shapes.Square.{Square};
 ghost use Rattle.rect_sets.specs.Rects.{covers};
-ghost use Rattle.cell_graph.specs.Linked.{IsFrame, cell_at, hull_of};
+ghost use Rattle.cell_graph.specs.Linked.{cell_at, hull_of};
 ghost use Rattle.deep_tables.specs.Frames.{IsFramedZone};
 ghost use Rattle.deep_tables.specs.Entries.{downward_cell};
 ghost use Rattle.zone_phase.specs.Jobs.{HasName, HaveEntries, HaveName, IsFromUse, IsFromUses};
@@ -13,16 +13,17 @@ ghost use Rattle.zone_phase.specs.Jobs.{MayRead};
 ghost use Rattle.zone_phase.specs.Jobs.{zone_in};
 ghost use Rattle.deep_tables.specs.Frames.{grown};
 ghost use Rattle.zone_phase.specs.Neighbours.{AreAllNear, AreNear, AreNeighbours};
-ghost use Rattle.zone_phase.specs.Uses.{AreUsesOf, IsUse};
+ghost use Rattle.zone_phase.specs.Framed.{IsFramed};
+ghost use Rattle.zone_phase.specs.Uses.{AreUsesOf, IsUse, IsUsed};
 
+use crate::frame::Frame;
 use crate::neighbours::Neighbour;
 use crate::overs::push_overs;
 use crate::pulls::is_last;
 use crate::references::push_reference;
 use crate::thins::{FIRST_ROOM, thin};
-use crate::uses::Use;
+use crate::uses::{Use, UsedCell};
 use cell_context::grown;
-use cell_graph::Design;
 use deep_tables::CellZones;
 use geo_base::{LayerKey, Rect};
 use job_graph::Reads;
@@ -33,79 +34,57 @@ use std::alloc::{AllocError, Global};
 fn push_use<R: Reads<CellZones>>(
     alloc: Global,
     out: &mut Vec<Rect>,
-    design: &Design,
+    frame: &Frame<'_>,
     reads: &R,
     found: &Use,
     name: usize,
-    cell: u32,
-    key: LayerKey,
-    hull: &Rect,
-    grown: &Rect,
 ) -> Result<(), AllocError>
-    requires found { IsUse design.now cell found.now }
+    requires found { IsUse frame.now.design.now frame.now.cell found.now }
     requires may { R.may_read reads.now found.now.job }
     requires entry { IsSomeAnd (R.value reads.now found.now.job) (HasName name) }
-    requires hull { hull_of (cell_at design.now cell) ≡ Some hull.now }
-    requires grown { IsFrame grown.now }
+    requires frame { IsFramed frame.now }
     requires rects { All IsRect out.old.items }
     ensures rects { OnOk result (All IsRect out.new.items) }
     ensures exact { OnOk result ((q : Square) → (covers out.new.items q ≡ true)
         ↔ ((covers out.old.items q ≡ true)
-        ⊎ IsFromUse design.now (zone_in (R.value reads.now found.now.job) name)
-        cell key grown.now q found.now)) }
+        ⊎ IsFromUse frame.now.design.now (zone_in (R.value reads.now found.now.job) name)
+        frame.now.cell frame.now.key frame.now.grown q found.now)) }
 {
+    let design = frame.design;
     design.sound();
     let order = design.order();
     let parent = order[order.len() - 1 - found.job as usize];
     let place = &design.places(parent)[found.index];
     let zone = &reads.get(found.job).layers[name];
-    push_reference(
-        alloc,
-        out,
-        design,
-        zone,
-        parent,
-        found.index,
-        place,
-        key,
-        hull,
-        grown,
-    )
+    push_reference(alloc, out, frame, zone, parent, found.index, place)
 }
 
 // The same of all references. Once the whole grown hull is covered, none can add to it.
 fn push_uses<R: Reads<CellZones>>(
     alloc: Global,
     out: &mut Vec<Rect>,
-    design: &Design,
+    frame: &Frame<'_>,
     reads: &R,
     uses: &[Use],
     name: usize,
-    cell: u32,
-    key: LayerKey,
-    hull: &Rect,
-    grown: &Rect,
 ) -> Result<(), AllocError>
-    requires uses { AreUsesOf design.now cell uses.now }
+    requires uses { AreUsesOf frame.now.design.now frame.now.cell uses.now }
     requires may { MayRead (R.may_read reads.now) uses.now }
     requires entries { HaveName (R.value reads.now) name uses.now }
-    requires hull { hull_of (cell_at design.now cell) ≡ Some hull.now }
-    requires grown { IsFrame grown.now }
+    requires frame { IsFramed frame.now }
     requires rects { All IsRect out.old.items }
     ensures rects { OnOk result (All IsRect out.new.items) }
     ensures exact { OnOk result ((q : Square) → (covers out.new.items q ≡ true)
         ↔ ((covers out.old.items q ≡ true)
-        ⊎ IsFromUses design.now (R.value reads.now) name cell key grown.now
-        uses.now (length uses.now) q)) }
+        ⊎ IsFromUses frame.now.design.now (R.value reads.now) name frame.now.cell frame.now.key
+        frame.now.grown uses.now (length uses.now) q)) }
 {
     let mut room = FIRST_ROOM;
     for found in uses {
-        if is_last(out, grown) {
+        if is_last(out, &frame.grown) {
             return Ok(());
         }
-        push_use(
-            alloc, out, design, reads, found, name, cell, key, hull, grown,
-        )?;
+        push_use(alloc, out, frame, reads, found, name)?;
         room = thin(alloc, out, room)?;
     }
     Ok(())
@@ -114,32 +93,37 @@ fn push_uses<R: Reads<CellZones>>(
 // The same for a cell that has a hull.
 fn hull_zone<R: Reads<CellZones>>(
     alloc: Global,
-    design: &Design,
+    used: &UsedCell<'_>,
     reads: &R,
-    uses: &[Use],
     name: usize,
-    cell: u32,
     key: LayerKey,
     hull: &Rect,
     neighbours: &[Neighbour],
-    margin: u32,
 ) -> Result<RectSet, AllocError>
-    requires hull { hull_of (cell_at design.now cell) ≡ Some hull.now }
-    requires neighbours { AreNeighbours design.now uses.now neighbours.now }
-    requires all { AreAllNear design.now (grown margin hull.now) uses.now (length uses.now)
-        neighbours.now }
-    requires uses { AreUsesOf design.now cell uses.now }
-    requires margin { margin ≤ 20001 }
-    requires may { MayRead (R.may_read reads.now) uses.now }
-    requires entries { HaveEntries margin design.now (R.value reads.now) key name uses.now }
-    ensures { IfOk result (IsFramedZone margin design.now (key ∷ []) cell) }
+    requires used { IsUsed used.now }
+    requires hull { hull_of (cell_at used.now.design.now used.now.cell) ≡ Some hull.now }
+    requires neighbours { AreNeighbours used.now.design.now used.now.uses.now neighbours.now }
+    requires all { AreAllNear used.now.design.now (grown used.now.margin hull.now)
+        used.now.uses.now (length used.now.uses.now) neighbours.now }
+    requires may { MayRead (R.may_read reads.now) used.now.uses.now }
+    requires entries { HaveEntries used.now.margin used.now.design.now (R.value reads.now) key name
+        used.now.uses.now }
+    ensures { IfOk result (IsFramedZone used.now.margin used.now.design.now (key ∷ [])
+        used.now.cell) }
 {
+    let design = used.design;
+    let uses = used.uses;
     design.sound();
     let mut out = Vec::new(alloc);
-    let wide = grown(hull, margin);
-    push_uses(
-        alloc, &mut out, design, reads, uses, name, cell, key, hull, &wide,
-    )?;
+    let wide = grown(hull, used.margin);
+    let frame = Frame {
+        design,
+        cell: used.cell,
+        key,
+        hull: *hull,
+        grown: wide,
+    };
+    push_uses(alloc, &mut out, &frame, reads, uses, name)?;
     push_overs(alloc, &mut out, design, uses, neighbours, key, &wide)?;
     let set = RectSet::canon(alloc, out)?;
     Ok(set)
@@ -149,27 +133,23 @@ fn hull_zone<R: Reads<CellZones>>(
 /// entries of the jobs of the cells that place it.
 pub fn key_zone<R: Reads<CellZones>>(
     alloc: Global,
-    design: &Design,
+    used: &UsedCell<'_>,
     reads: &R,
-    uses: &[Use],
     name: usize,
-    cell: u32,
     key: LayerKey,
     neighbours: &[Neighbour],
-    margin: u32,
 ) -> Result<RectSet, AllocError>
-    requires neighbours { AreNear margin design.now cell uses.now neighbours.now }
-    requires cell { cell < length design.now.cells }
-    requires uses { AreUsesOf design.now cell uses.now }
-    requires margin { margin ≤ 20001 }
-    requires may { MayRead (R.may_read reads.now) uses.now }
-    requires entries { HaveEntries margin design.now (R.value reads.now) key name uses.now }
-    ensures { IfOk result (IsFramedZone margin design.now (key ∷ []) cell) }
+    requires used { IsUsed used.now }
+    requires neighbours { AreNear used.now.margin used.now.design.now used.now.cell
+        used.now.uses.now neighbours.now }
+    requires may { MayRead (R.may_read reads.now) used.now.uses.now }
+    requires entries { HaveEntries used.now.margin used.now.design.now (R.value reads.now) key name
+        used.now.uses.now }
+    ensures { IfOk result (IsFramedZone used.now.margin used.now.design.now (key ∷ [])
+        used.now.cell) }
 {
-    match design.hull(cell) {
-        Some(hull) => hull_zone(
-            alloc, design, reads, uses, name, cell, key, &hull, neighbours, margin,
-        ),
+    match used.design.hull(used.cell) {
+        Some(hull) => hull_zone(alloc, used, reads, name, key, &hull, neighbours),
         None => Ok(RectSet::empty(alloc)),
     }
 }

@@ -54,7 +54,7 @@ circuit_net_names-requires-clause-drawn g c =
     let p = c.args.placed.now in
     let parts = c.args.parts.now in
     let marks = c.args.drawn.now in
-    let cell = c.args.cell in
+    let cell = c.args.parts.now.cell in
     let first = c.number_nets.new.numbering.nets in
     let new = c.call_rows.new.numbering.nets in
     let numbers = c.in_ok-pins.pins.items in
@@ -63,7 +63,7 @@ circuit_net_names-requires-clause-drawn g c =
     let r = rules_seen parts.rules.now in
     let x : Circuit = record { name = []; nets = []; pins = numbers; devices = map plain_device c.in_ok-devices.devices.items; calls = map plain_call c.in_ok-calls.calls.items } in
     let all = all_drawn (g.P.Placed.design p) (g.P.Placed.wiring p) (g.P.Placed.nets p) (g.P.Placed.pins p) (g.P.Placed.drawn p) (g.P.Placed.circuits p) cell (plain_nets parts.nets.now) (map plain_gate parts.gates.now) marks (device_rules r) parts.unit_pm
-    c.requires.drawn c.requires.nets c.requires.right c.requires.terminals (length c.args.cells.now) first c.device_rows.new.numbering.nets new numbers x lead refl c.in_ok-devices.ensures.kept (c.in_ok-devices.ensures.devices x refl) c.in_ok-devices.ensures.numbered c.in_ok-calls.ensures.calls in
+    c.requires.drawn c.requires.nets c.requires.right c.requires.terminals (length c.args.parts.now.cells.now) first c.device_rows.new.numbering.nets new numbers x lead refl c.in_ok-devices.ensures.kept (c.in_ok-devices.ensures.devices x refl) c.in_ok-devices.ensures.numbered c.in_ok-calls.ensures.calls in
     subst (λ (l : List ℕ). (i y : ℕ) → slice_get l i ≡ Some y → slice_get marks y ≡ Some true) (sym (c.deref-2.ensures.value ∙ c.into_nets-on.ensures.nets)) all
 
 pub returns-clause-made : goal.returns-clause-made
@@ -71,7 +71,7 @@ returns-clause-made g c =
     let p = c.args.placed.now in
     let parts = c.args.parts.now in
     let marks = c.args.drawn.now in
-    let cell = c.args.cell in
+    let cell = c.args.parts.now.cell in
     let first = c.number_nets.new.numbering.nets in
     let new = c.call_rows.new.numbering.nets in
     let numbers = c.in_ok-pins.pins.items in
@@ -84,5 +84,5 @@ returns-clause-made g c =
     let named = subst (λ (u : CellPins). (a k y : ℕ) → slice_get new a ≡ Some y → slice_get (drawn_nets marks) k ≡ Some y → slice_get names a ≡ slice_get (drawn_names u marks) k) (sym c.requires.pins)
     (subst (λ (l : List ℕ). (a k y : ℕ) → slice_get l a ≡ Some y → slice_get (drawn_nets marks) k ≡ Some y → slice_get names a ≡ slice_get (drawn_names (plain_pins parts.pins.now) marks) k) e c.in_ok-nets.ensures.named) in
     made_of (g.P.Placed.design p) (g.P.Placed.wiring p) (g.P.Placed.nets p) (g.P.Placed.pins p) (g.P.Placed.drawn p) (g.P.Placed.circuits p) cell (plain_nets parts.nets.now) (map plain_gate parts.gates.now) marks (device_rules r) parts.unit_pm
-    c.requires.drawn c.requires.nets c.requires.right c.requires.terminals (length c.args.cells.now) first c.device_rows.new.numbering.nets new numbers x (ap (λ (l : List ℕ). length l) c.requires.cells) lead refl c.in_ok-devices.ensures.kept (c.in_ok-devices.ensures.devices x refl) c.in_ok-devices.ensures.numbered c.in_ok-calls.ensures.calls
+    c.requires.drawn c.requires.nets c.requires.right c.requires.terminals (length c.args.parts.now.cells.now) first c.device_rows.new.numbering.nets new numbers x (ap (λ (l : List ℕ). length l) c.requires.cells) lead refl c.in_ok-devices.ensures.kept (c.in_ok-devices.ensures.devices x refl) c.in_ok-devices.ensures.numbered c.in_ok-calls.ensures.calls
     c.into_nets-on.ensures.apart (c.in_ok-nets.ensures.count ∙ ap (λ (l : List ℕ). length l) e) named

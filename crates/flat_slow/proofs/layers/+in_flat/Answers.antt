@@ -1,7 +1,7 @@
 use Rattle.std.proofs.Common.{◌↔◌, IsTrue, IfSome, sym, subst}
 use Rattle.flat_layout.specs.Layers.{InFlat}
 use Rattle.flat_slow.specs.Slow.{plain_formula}
-use Rattle.slow_paths.specs.Slow.{plain}
+use Rattle.flat_slow.specs.Paths.{plain}
 use Rattle.flat_slow.specs.declared.layers.Formula.{Formula}
 use Rattle.flat_slow.proofs.layers.+in_flat.Goals as goal
 

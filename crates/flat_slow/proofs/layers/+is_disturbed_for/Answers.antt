@@ -2,9 +2,9 @@ use Rattle.std.proofs.Common.{◌↔◌, IsTrue, IfSome, ◌≡◌, inl, inr, fa
 use Rattle.std.proofs.lemmas.Option.{IfSome_then}
 use Rattle.flat_layout.specs.Layers.{inputs}
 use Rattle.flat_layout.specs.Layout.{IsDisturbed}
-use Rattle.slow_paths.proofs.Ways.{yes_is, disturbed_either}
+use Rattle.flat_slow.proofs.Ways.{yes_is, disturbed_either}
 use Rattle.flat_slow.specs.Slow.{plain_formula}
-use Rattle.slow_paths.specs.Slow.{plain}
+use Rattle.flat_slow.specs.Paths.{plain}
 use Rattle.flat_slow.specs.declared.layers.Formula.{Formula}
 use Rattle.flat_slow.proofs.layers.+is_disturbed_for.Goals as goal
 

@@ -4,10 +4,10 @@ use Rattle.geo_base.specs.Motions.{moved_square}
 use Rattle.flat_layout.specs.Layers.{IsKept}
 use Rattle.flat_layout.specs.Layout.{Place, IsPlaced}
 use Rattle.flat_laws.proofs.Paths.{same_place, moved_square-injective}
-use Rattle.slow_paths.specs.declared.design.SlowPlace.{SlowPlace}
-use Rattle.slow_paths.proofs.Ways.{yes_is, no_is, no_place, cell_at, item_at, placed_at, within, none_place_next}
+use Rattle.flat_slow.specs.declared.design.SlowPlace.{SlowPlace}
+use Rattle.flat_slow.proofs.Ways.{yes_is, no_is, no_place, cell_at, item_at, placed_at, within, none_place_next}
 use Rattle.flat_slow.specs.Slow.{plain_formula}
-use Rattle.slow_paths.specs.Slow.{plain, plain_place}
+use Rattle.flat_slow.specs.Paths.{plain, plain_place}
 use Rattle.flat_slow.proofs.layers.is_below.Goals as goal
 
 pub returns-then-branch : goal.returns-then-branch

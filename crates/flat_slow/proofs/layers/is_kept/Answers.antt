@@ -1,7 +1,7 @@
 use Rattle.std.proofs.Common.{◌↔◌, IsTrue, IfSome, sym, subst}
 use Rattle.flat_layout.specs.Layers.{InFlat, IsKept, IsStirred, inputs, reach}
 use Rattle.flat_slow.specs.Slow.{plain_formula}
-use Rattle.slow_paths.specs.Slow.{plain}
+use Rattle.flat_slow.specs.Paths.{plain}
 use Rattle.flat_slow.specs.declared.layers.Formula.{Formula}
 use Rattle.flat_slow.proofs.Calm.{stirless}
 use Rattle.flat_slow.proofs.layers.is_kept.Goals as goal

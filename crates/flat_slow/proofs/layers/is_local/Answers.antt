@@ -1,10 +1,10 @@
 use Rattle.std.proofs.Common.{◌↔◌, IsTrue, IfSome, ◌<◌, List, map, sym, subst, arith, nat_lt}
 use Rattle.flat_layout.specs.Layers.{IsKept, IsKeptBelow, IsLocal}
 use Rattle.flat_layout.specs.Layout.{Some_of}
-use Rattle.slow_paths.proofs.Ways.{cell_at, own_to, own_of, no_cell_at}
+use Rattle.flat_slow.proofs.Ways.{cell_at, own_to, own_of, no_cell_at}
 use Rattle.flat_slow.specs.Slow.{plain_formula}
-use Rattle.slow_paths.specs.Slow.{plain, plain_layer, IsOnLayer}
-use Rattle.slow_paths.specs.declared.design.SlowShape.{SlowShape}
+use Rattle.flat_slow.specs.Paths.{plain, plain_layer, IsOnLayer}
+use Rattle.flat_slow.specs.declared.design.SlowShape.{SlowShape}
 use Rattle.flat_slow.specs.declared.layers.Formula.{Formula}
 use Rattle.flat_slow.proofs.layers.is_local.Goals as goal
 

@@ -6,9 +6,9 @@ use Rattle.gate_phase.proofs.Results.{if_ok}
 use Rattle.gate_phase.proofs.below.is_free_visit.Goals as goal
 
 pub grown_hull-frame-requires-clause-hull : goal.grown_hull-frame-requires-clause-hull
-grown_hull-frame-requires-clause-hull c = subst HullIsSound (sym c.hull.ensures ∙ c.in-Some.is) (hull_sound c.args.design.now c.args.visit.now.cell c.sound.ensures)
+grown_hull-frame-requires-clause-hull c = subst HullIsSound (sym c.hull.ensures ∙ c.in-Some.is) (hull_sound c.args.at.now.site.design.now c.args.visit.now.cell c.sound.ensures)
 
 pub returns-in-Some : goal.returns-in-Some
 returns-in-Some c =
     if_ok _ _ c.is_free.result (λ b told.
-    free_in c.args.reach c.args.design.now c.args.zones.now c.args.device c.args.close.now c.args.visit.now.cell c.args.visit.now.motion c.in-Some.hull c.grown_hull-frame.result c.indexed-zone.result.now b (sym c.hull.ensures ∙ c.in-Some.is) c.grown_hull-frame.ensures.grown c.indexed-zone.ensures told) c.is_free.ensures
+    free_in c.args.at.now.reach c.args.at.now.site.design.now c.args.at.now.site.zones.now c.args.at.now.number c.args.close.now c.args.visit.now.cell c.args.visit.now.motion c.in-Some.hull c.grown_hull-frame.result c.indexed-zone.result.now b (sym c.hull.ensures ∙ c.in-Some.is) c.grown_hull-frame.ensures.grown c.indexed-zone.ensures told) c.is_free.ensures

@@ -22,8 +22,8 @@ loop-gate-preserved g c =
     let rest = into_iter_items c.next.new.self in
     let steps : into_iter_items at.gate-iterator ≡ x ∷ rest = c.in-Some.ensures.steps.0 in
     let whole : at.yielded ++ (x ∷ rest) ≡ into_iter_items c.into_iter-gate-iterator.result = ap (λ (l : List OwnGate). at.yielded ++ l) (sym steps) ∙ at.invariant.whole in
-    let is = IsGateOf (g.C.Cells.design c.args.cells.now) (g.C.Cells.wiring c.args.cells.now) (g.C.Cells.tables c.args.cells.now) c.args.rule.now (grounds_seen c.args.grounds) c.args.device c.args.cell in
-    let made : Gate = record { device = c.args.device; area = x.area; least = x.least; state = c.in_ok-state.state } in
+    let is = IsGateOf (g.C.Cells.design c.args.at.now.cells.now) (g.C.Cells.wiring c.args.at.now.cells.now) (g.C.Cells.tables c.args.at.now.cells.now) c.args.at.now.device (grounds_seen c.args.at.now.grounds) c.args.number c.args.at.now.cell in
+    let made : Gate = record { device = c.args.number; area = x.area; least = x.least; state = c.in_ok-state.state } in
     record {
       whole = append_assoc at.yielded (x ∷ []) rest ∙ whole;
       left = let was = at.invariant.left in let gone = c.in-Some.ensures.steps.1 in let short = ap length steps in omega arith;
@@ -33,7 +33,7 @@ loop-gate-preserved g c =
 pub returns : goal.returns
 returns g c =
     let at = c.loop-gate in
-    let is = IsGateOf (g.C.Cells.design c.args.cells.now) (g.C.Cells.wiring c.args.cells.now) (g.C.Cells.tables c.args.cells.now) c.args.rule.now (grounds_seen c.args.grounds) c.args.device c.args.cell in
+    let is = IsGateOf (g.C.Cells.design c.args.at.now.cells.now) (g.C.Cells.wiring c.args.at.now.cells.now) (g.C.Cells.tables c.args.at.now.cells.now) c.args.at.now.device (grounds_seen c.args.at.now.grounds) c.args.number c.args.at.now.cell in
     let empty : into_iter_items at.gate-iterator ≡ [] = nothing_left _ (sym at.invariant.left ∙ c.in-None.ensures.steps.0) in
     let all : at.yielded ≡ c.args.own.items = sym (append-nil at.yielded) ∙ ap (λ (l : List OwnGate). at.yielded ++ l) (sym empty) ∙ at.invariant.whole ∙ c.into_iter-gate-iterator.ensures.into_iter_gives.0 in
     subst (λ (l : List OwnGate). AreGatesOf is l at.gates.items) all at.invariant.gates

@@ -8,5 +8,5 @@ abbrev pub invariant-loop-gate : goal.invariant-loop-gate
 invariant-loop-gate g l = record {
   whole : l.yielded ++ into_iter_items l.gate-iterator ≡ into_iter_items l.initial.gate-iterator;
   left : into_iter_len l.gate-iterator ≡ length (into_iter_items l.gate-iterator);
-  gates : AreGatesOf (IsGateOf (g.C.Cells.design l.cells) (g.C.Cells.wiring l.cells) (g.C.Cells.tables l.cells) l.rule (grounds_seen l.grounds) l.device l.cell) l.yielded l.gates.items;
+  gates : AreGatesOf (IsGateOf (g.C.Cells.design l.at.cells.now) (g.C.Cells.wiring l.at.cells.now) (g.C.Cells.tables l.at.cells.now) l.at.device (grounds_seen l.at.grounds) l.number l.at.cell) l.yielded l.gates.items;
 }

@@ -13,16 +13,16 @@ use Rattle.gate_phase.proofs.own.own_gates.Goals as goal
 
 pub push_part-requires-clause-held : goal.push_part-requires-clause-held
 push_part-requires-clause-held c =
-    let d = c.args.design.now in let r = rules_seen c.args.rules.now in let at = c.loop-part in let x = c.in-Some.part in
-    let u = some_rule r c.args.number c.requires.ready.known in
+    let d = c.args.at.now.site.design.now in let r = rules_seen c.args.at.now.site.rules.now in let at = c.loop-part in let x = c.in-Some.part in
+    let u = some_rule r c.args.at.now.number c.requires.ready.known in
     let s = c.in_ok-parts.ensures u.0 u.1 in
     let steps : into_iter_items at.part-iterator ≡ x ∷ into_iter_items c.next.new.self = c.in-Some.ensures.steps.0 in
     let whole : at.yielded ++ (x ∷ into_iter_items c.next.new.self) ≡ c.in_ok-parts.parts.items = ap (λ (l : List (List Rect)). at.yielded ++ l) (sym steps) ∙ at.invariant.whole ∙ c.into_iter-part-iterator.ensures.into_iter_gives.0 in
-    subst (λ n. IsHeldPart n d c.args.cell x) (c.requires.reach u.0 u.1) (held_part d (geometry (wiring_of r) u.0) c.args.cell s.0 s.1 c.in_ok-parts.parts.items c.sound.ensures s.2 (length at.yielded) x (item_here at.yielded (into_iter_items c.next.new.self) c.in_ok-parts.parts.items x whole))
+    subst (λ n. IsHeldPart n d c.args.at.now.site.cell x) (c.requires.ready.reach u.0 u.1) (held_part d (geometry (wiring_of r) u.0) c.args.at.now.site.cell s.0 s.1 c.in_ok-parts.parts.items c.sound.ensures s.2 (length at.yielded) x (item_here at.yielded (into_iter_items c.next.new.self) c.in_ok-parts.parts.items x whole))
 
 pub loop-part-preserved : goal.loop-part-preserved
 loop-part-preserved c =
-    let d = c.args.design.now in let r = rules_seen c.args.rules.now in let w = wiring_of r in let cell = c.args.cell in let at = c.loop-part in let x = c.in-Some.part in
+    let d = c.args.at.now.site.design.now in let r = rules_seen c.args.at.now.site.rules.now in let w = wiring_of r in let cell = c.args.at.now.site.cell in let at = c.loop-part in let x = c.in-Some.part in
     let rest = into_iter_items c.next.new.self in
     let steps : into_iter_items at.part-iterator ≡ x ∷ rest = c.in-Some.ensures.steps.0 in
     let first = into_iter_items c.into_iter-part-iterator.result in
@@ -42,7 +42,7 @@ loop-part-preserved c =
 
 pub returns : goal.returns
 returns c = λ u known.
-    let d = c.args.design.now in let r = rules_seen c.args.rules.now in let w = wiring_of r in let cell = c.args.cell in let at = c.loop-part in
+    let d = c.args.at.now.site.design.now in let r = rules_seen c.args.at.now.site.rules.now in let w = wiring_of r in let cell = c.args.at.now.site.cell in let at = c.loop-part in
     let first = into_iter_items c.into_iter-part-iterator.result in
     let none = c.in-None.ensures.steps in
     let empty : into_iter_items at.part-iterator ≡ [] = nothing_left _ (sym at.invariant.left ∙ none.0) in

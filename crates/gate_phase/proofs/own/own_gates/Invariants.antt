@@ -13,6 +13,6 @@ abbrev pub invariant-loop-part : goal.invariant-loop-part
 invariant-loop-part l = record {
   whole : l.yielded ++ into_iter_items l.part-iterator ≡ into_iter_items l.initial.part-iterator;
   left : into_iter_len l.part-iterator ≡ length (into_iter_items l.part-iterator);
-  so_far : (u : Rule) (gathered : List Rect) (are : AreParts gathered (into_iter_items l.initial.part-iterator)) → slice_get (device_rules (rules_seen l.rules)) l.number ≡ Some u
-      → SoFar (plain l.design) (wiring_of (rules_seen l.rules)) u l.cell gathered (into_iter_items l.initial.part-iterator) are (length l.yielded) l.gates.items;
+  so_far : (u : Rule) (gathered : List Rect) (are : AreParts gathered (into_iter_items l.initial.part-iterator)) → slice_get (device_rules (rules_seen l.at.site.rules.now)) l.at.number ≡ Some u
+      → SoFar (plain l.at.site.design.now) (wiring_of (rules_seen l.at.site.rules.now)) u l.at.site.cell gathered (into_iter_items l.initial.part-iterator) are (length l.yielded) l.gates.items;
 }

@@ -14,6 +14,6 @@ returns-in_ok-gate-in-Some c =
     (λ e u at is. record {
       gate = c.in_ok-gate-in-Some.gate;
       added = e;
-      right = λ s least. subst (λ x. IsOwnOr (plain c.args.design.now) (wiring_of (rules_seen c.args.rules.now)) u c.args.cell c.args.part x c.in_ok-gate-in-Some.gate) (one_least (in_set c.args.part) _ s c.in-Some.ensures least) (c.in_ok-gate-in-Some.ensures u at is);
+      right = λ s least. subst (λ x. IsOwnOr (plain c.args.at.now.site.design.now) (wiring_of (rules_seen c.args.at.now.site.rules.now)) u c.args.at.now.site.cell c.args.part x c.in_ok-gate-in-Some.gate) (one_least (in_set c.args.part) _ s c.in-Some.ensures least) (c.in_ok-gate-in-Some.ensures u at is);
     })
     c.push_gate.ensures

@@ -9,5 +9,5 @@ use Rattle.gate_phase.proofs.seeds.push_references.Given as goal
 abbrev pub invariant-loop-i : goal.invariant-loop-i
 invariant-loop-i l = record {
   pieces : All (IsPiece l.plane) l.out.items;
-  brings : (k : ℕ) (p : Place) → k < l.i → slice_get (places_at (cell_at l.design l.cell)) k ≡ Some p → BringsOpen l.by l.design l.zones l.device p l.plane l.out.items;
+  brings : (k : ℕ) (p : Place) → k < l.i → slice_get (places_at (cell_at l.at.site.design.now l.at.site.cell)) k ≡ Some p → BringsOpen l.by l.at.site.design.now l.at.site.zones.now l.at.number p l.plane l.out.items;
 }

@@ -23,6 +23,6 @@ pub returns : goal.returns
 returns c =
     let t = c.if-far-eq0.false in
     let some : c.args.far ≡ 0 → ⊥ = λ e. let z : ⊥ = omega arith in z in
-    if_ok _ _ c.combine.result
+    if_ok _ _ c.combined.result
     (λ r h q. h q ∙ ap (λ (l : List Rect). covers l q && covers c.args.looks.now q) c.set.ensures ∙ cut_seen c.args.far (covers c.args.flat q) (covers c.args.looks.now q) some)
-    c.combine.ensures
+    c.combined.ensures

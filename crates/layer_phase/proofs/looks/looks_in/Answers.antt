@@ -1,9 +1,9 @@
 use Rattle.std.proofs.Common.{◌≡◌, inl, inr, ◌∙◌, ◌^◌, true, not, ap, arith, sym, subst}
 use Rattle.std.proofs.lemmas.Bool.{and_from, cases_Bool, and_parts}
 use Rattle.geo_base.specs.Motions.{moved_square}
-use Rattle.geo_base.specs.Rects.{has, IsRect}
+use Rattle.geo_base.specs.Rects.{has, IsRect, grown}
 use Rattle.rect_sets.specs.Rects.{covers}
-use Rattle.cell_graph.specs.Grown.{grown, IsInGrown}
+use Rattle.cell_graph.specs.Grown.{IsInGrown}
 use Rattle.cell_graph.specs.Linked.{HullIsSound, IsFrame, IsHull, motion_at}
 use Rattle.cell_graph.proofs.Bridge.{hull_sound}
 use Rattle.cell_graph.proofs.Growing.{grown_frame, grown_up}

@@ -1,8 +1,7 @@
 use Rattle.std.proofs.Common.{◌≡◌, ◌∙◌, ◌^◌, ◌&&◌, ◌||◌, not, Bool, true, false, ℕ, List, arith, ap, refl, sym}
-use Rattle.geo_base.specs.Rects.{has}
+use Rattle.geo_base.specs.Rects.{has, grown}
 use Rattle.geo_base.specs.declared.shapes.Rect.{Rect}
 use Rattle.rect_sets.specs.Rects.{covers}
-use Rattle.cell_graph.specs.Grown.{grown}
 use Rattle.layer_phase.specs.Around.{around}
 use Rattle.layer_phase.proofs.Around.{around_none, around_same, grown_within, set_within}
 use Rattle.layer_phase.proofs.Results.{if_ok}

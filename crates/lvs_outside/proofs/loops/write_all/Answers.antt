@@ -1,6 +1,6 @@
 use Rattle.std.proofs.Common.{refl}
 use Rattle.std.proofs.lemmas.List.{take_rest}
-use Rattle.lvs_outside.proofs.Written.{sending_goes_on}
+use Rattle.lvs_outside.proofs.WrittenFiles.{sending_goes_on}
 use Rattle.lvs_outside.proofs.loops.write_all.Goals as goal
 
 pub loop-rest-preserved : goal.loop-rest-preserved

@@ -1,6 +1,6 @@
 use Rattle.std.proofs.Common.{length}
 use Rattle.lvs_outside.specs.Summary.{counted_sink}
-use Rattle.lvs_outside.proofs.Written.{SentSoFar}
+use Rattle.lvs_outside.proofs.WrittenFiles.{SentSoFar}
 use Rattle.lvs_outside.proofs.loops.write_all.Given as goal
 
 abbrev pub invariant-loop-rest : goal.invariant-loop-rest

@@ -1,4 +1,4 @@
-use Rattle.lvs_outside.proofs.Written.{finished}
+use Rattle.lvs_outside.proofs.WrittenFiles.{finished}
 use Rattle.lvs_outside.proofs.loops.write_file.Goals as goal
 
 pub returns : goal.returns

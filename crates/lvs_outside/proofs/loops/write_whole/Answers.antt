@@ -1,7 +1,7 @@
 use Rattle.std.proofs.Common.{refl}
 use Rattle.std.proofs.lemmas.List.{take_rest}
 use Rattle.lvs_outside.proofs.Told.{same_or_not}
-use Rattle.lvs_outside.proofs.Written.{starts, goes_on}
+use Rattle.lvs_outside.proofs.WrittenFiles.{starts, goes_on}
 use Rattle.lvs_outside.proofs.loops.write_whole.Goals as goal
 
 pub loop-rest-init : goal.loop-rest-init

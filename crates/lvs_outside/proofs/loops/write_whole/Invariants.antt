@@ -1,6 +1,6 @@
 use Rattle.std.proofs.Common.{length}
 use Rattle.lvs_outside.specs.Store.{counted}
-use Rattle.lvs_outside.proofs.Written.{SoFar}
+use Rattle.lvs_outside.proofs.WrittenFiles.{SoFar}
 use Rattle.lvs_outside.proofs.loops.write_whole.Given as goal
 
 abbrev pub invariant-loop-rest : goal.invariant-loop-rest

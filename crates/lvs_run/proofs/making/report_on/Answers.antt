@@ -19,7 +19,7 @@ pub report_file-requires-clause-cells : goal.report_file-requires-clause-cells
 report_file-requires-clause-cells g c κs within =
     let found = c.args.found.now in
     let file = c.requires.found in
-    subst (λ (bs : List BadGate). All (λ x. x.cell < length c.args.layout.now.design.cells) bs) (sym c.as_slice-bad.ensures.value)
+    subst (λ (bs : List BadGate). All (λ x. x.cell < length c.args.layout.now.design.cells) bs) (sym c.as_slice.ensures.value)
     (told_inside c.args.layout.now.design (rules_seen c.args.rules.now) file.gates found.bad.items file.design file.told)
 
 pub returns : goal.returns
@@ -27,4 +27,4 @@ returns g c =
     let found = c.args.found.now in
     let report = c.in_ok-report.report in
     subst (λ (bs : List BadGate). IsReportFile c.args.layout.now.design (rules_seen c.args.rules.now) (plain_netlist c.args.netlist.now) found.top bs (plain_netlist c.args.schematic.now) report.text.items report.pairs report.verdict)
-    c.as_slice-bad.ensures.value c.in_ok-report.ensures
+    c.as_slice.ensures.value c.in_ok-report.ensures

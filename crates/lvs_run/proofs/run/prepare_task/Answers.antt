@@ -2,7 +2,7 @@ use Rattle.std.proofs.Common.{ap, subst, sym, string_bytes, ◌∙◌}
 use Rattle.std.proofs.lemmas.Result.{err_from_is_err_and}
 use Rattle.std.specs.Option.{option_map}
 use Rattle.rule_text.specs.Seen.{rules_seen}
-use Rattle.lvs_files.specs.Files.{AreApart}
+use Rattle.lvs_outside.specs.Files.{AreApart}
 use Rattle.lvs_run.specs.declared.words.Outputs.{Outputs as Code}
 use Rattle.lvs_run.specs.Words.{Outputs, blank_files, outputs_of, paths_of, schematic_path}
 use Rattle.lvs_run.specs.Inputs.{IsOutput}

@@ -8,7 +8,7 @@ use Rattle.net_phase.specs.Below.{tables_seen, wiring_seen}
 pub own_links-requires-clause-room : goal.own_links-requires-clause-room
 own_links-requires-clause-room g c =
     let v = c.args.below.now in
-    let long = items_long (plain v.design) (wiring_seen v) (tables_seen v) c.args.cell in
+    let long = items_long (plain v.design) (wiring_seen v) (tables_seen v) c.args.site.now.cell in
     let room = c.requires.site.room in
     omega (arith, long, room)
 
@@ -17,4 +17,4 @@ returns g c =
     let v = c.args.below.now in
     let own = c.in_ok-links.links.items in
     rw (c.in_ok-extend_from_slice.ensures.items, c.deref.ensures.value)
-    (own, c.in_ok-links.ensures, children_on (plain v.design) (wiring_seen v) (tables_seen v) c.args.cell own c.in_ok-further.further.items c.in_ok-further.ensures)
+    (own, c.in_ok-links.ensures, children_on (plain v.design) (wiring_seen v) (tables_seen v) c.args.site.now.cell own c.in_ok-further.further.items c.in_ok-further.ensures)

@@ -9,10 +9,10 @@ pub returns-clause-some : goal.returns-clause-some
 returns-clause-some g c =
     let v = c.args.below.now in
     let is = rw c.in_ok-one.is at c.branch-one.ensures in
-    IfOk-at_ok (λ l. AddsPairs (plain v.design) (wiring_seen v) (tables_seen v) c.args.cell c.args.some.now [] l.items) is c.both-one.ensures.first
+    IfOk-at_ok (λ l. AddsPairs (plain v.design) (wiring_seen v) (tables_seen v) c.args.site.now.cell c.args.some.now [] l.items) is c.both-one.ensures.first
 
 pub returns-clause-others : goal.returns-clause-others
 returns-clause-others g c =
     let v = c.args.below.now in
     let is = rw c.in_ok-other.is at c.branch-other.ensures in
-    IfOk-at_ok (λ l. AddsPairs (plain v.design) (wiring_seen v) (tables_seen v) c.args.cell c.args.others.now [] l.items) is c.both-one.ensures.second
+    IfOk-at_ok (λ l. AddsPairs (plain v.design) (wiring_seen v) (tables_seen v) c.args.site.now.cell c.args.others.now [] l.items) is c.both-one.ensures.second

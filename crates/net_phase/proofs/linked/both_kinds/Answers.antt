@@ -10,10 +10,10 @@ pub returns-clause-apart : goal.returns-clause-apart
 returns-clause-apart g c =
     let v = c.args.below.now in
     let is = rw c.in_ok-apart.is at c.branch-apart.ensures in
-    IfOk-at_ok (λ l. AreApartLinks (plain v.design) (wiring_seen v) (tables_seen v) c.args.cell l.items) is c.both-beside.ensures.second
+    IfOk-at_ok (λ l. AreApartLinks (plain v.design) (wiring_seen v) (tables_seen v) c.args.site.now.cell l.items) is c.both-beside.ensures.second
 
 pub returns-clause-beside : goal.returns-clause-beside
 returns-clause-beside g c =
     let v = c.args.below.now in
     let is = rw c.in_ok-beside.is at c.branch-beside.ensures in
-    IfOk-at_ok (λ l. AddsBeside (plain v.design) (wiring_seen v) (tables_seen v) c.args.cell [] l.items) is c.both-beside.ensures.first
+    IfOk-at_ok (λ l. AddsBeside (plain v.design) (wiring_seen v) (tables_seen v) c.args.site.now.cell [] l.items) is c.both-beside.ensures.first

@@ -34,21 +34,21 @@ pub global_links-requires-clause-lines : goal.global_links-requires-clause-lines
 global_links-requires-clause-lines g c = λ x n.
     subst (λ (l : List Grounded). IsGroundedBy l x n ↔ IsGrounded (wiring_seen c.args.below.now) x n) (sym c.deref-5.ensures.value) (c.requires.wires.grounds x n)
 
-pub overflow_sub-count : goal.overflow_sub-count
-overflow_sub-count g c =
+pub overflow_sub-globals : goal.overflow_sub-globals
+overflow_sub-globals g c =
     let v = c.args.below.now in
     let long = items_long (plain v.design) (wiring_seen v) (tables_seen v) c.args.cell in
     let count = c.requires.count in
     let globals = c.requires.wires.globals in
     omega (arith, long, count, globals)
 
-pub global_links-requires-clause-at : goal.global_links-requires-clause-at
-global_links-requires-clause-at g c =
+pub global_links-requires-clause-globals : goal.global_links-requires-clause-globals
+global_links-requires-clause-globals g c =
     let v = c.args.below.now in
     let long = items_long (plain v.design) (wiring_seen v) (tables_seen v) c.args.cell in
     let count = c.requires.count in
     let globals = c.requires.wires.globals in
-    omega (arith, long, count, globals)
+    record { count = globals; at = omega (arith, long, count, globals); room = omega (arith, long, count) }
 
 pub returns : goal.returns
 returns g c =

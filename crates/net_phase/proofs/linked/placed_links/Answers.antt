@@ -12,13 +12,13 @@ pub both_halves-requires-clause-some : goal.both_halves-requires-clause-some
 both_halves-requires-clause-some g c =
     let whole = sym c.split_at.ensures.by_index.0 ∙ c.as_slice-pairs.ensures.value in
     let d = plain c.args.below.now.design in
-    (range_both (length (places_of d c.args.cell)) c.split_at.result.0.now c.split_at.result.1.now (subst (λ (l : List Link). AreInRange (length (places_of d c.args.cell)) l) (sym whole) c.in_ok-found.ensures.range)).0
+    (range_both (length (places_of d c.args.site.now.cell)) c.split_at.result.0.now c.split_at.result.1.now (subst (λ (l : List Link). AreInRange (length (places_of d c.args.site.now.cell)) l) (sym whole) c.in_ok-found.ensures.range)).0
 
 pub both_halves-requires-clause-others : goal.both_halves-requires-clause-others
 both_halves-requires-clause-others g c =
     let whole = sym c.split_at.ensures.by_index.0 ∙ c.as_slice-pairs.ensures.value in
     let d = plain c.args.below.now.design in
-    (range_both (length (places_of d c.args.cell)) c.split_at.result.0.now c.split_at.result.1.now (subst (λ (l : List Link). AreInRange (length (places_of d c.args.cell)) l) (sym whole) c.in_ok-found.ensures.range)).1
+    (range_both (length (places_of d c.args.site.now.cell)) c.split_at.result.0.now c.split_at.result.1.now (subst (λ (l : List Link). AreInRange (length (places_of d c.args.site.now.cell)) l) (sym whole) c.in_ok-found.ensures.range)).1
 
 pub returns : goal.returns
 returns g c =
@@ -26,7 +26,7 @@ returns g c =
     let d = plain v.design in
     let w = wiring_seen v in
     let t = tables_seen v in
-    let cell = c.args.cell in
+    let cell = c.args.site.now.cell in
     let some = c.split_at.result.0.now in
     let others = c.split_at.result.1.now in
     let one = c.in_ok-halves.halves.0.items in

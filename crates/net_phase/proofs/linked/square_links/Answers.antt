@@ -9,4 +9,4 @@ returns g c =
     let apart = c.in_ok-kinds.kinds.0.items in
     let both = c.in_ok-kinds.ensures in
     rw (c.in_ok-extend_from_slice.ensures.items, c.deref.ensures.value)
-    (apart, both.apart, beside_on (plain v.design) (wiring_seen v) (tables_seen v) c.args.cell apart c.in_ok-kinds.kinds.1.items both.beside)
+    (apart, both.apart, beside_on (plain v.design) (wiring_seen v) (tables_seen v) c.args.site.now.cell apart c.in_ok-kinds.kinds.1.items both.beside)

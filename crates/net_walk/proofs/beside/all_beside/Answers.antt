@@ -14,16 +14,16 @@ own_pieces-requires g c =
     let d = g.C.Cells.design c.args.cells.now in
     let w = g.C.Cells.wiring c.args.cells.now in
     let t = g.C.Cells.tables c.args.cells.now in
-    let cell = c.args.cell in
+    let cell = c.args.site.now.cell in
     let all = items_long d w t cell in
-    let room = c.requires.room in
+    let room = c.requires.site.room in
     omega (arith, all, room)
 
 pub partners-requires-clause-from : goal.partners-requires-clause-from
 partners-requires-clause-from g c =
     let t = g.C.Cells.tables c.args.cells.now in
     let n = length (g.C.Cells.wiring c.args.cells.now).conductors in
-    let long : length c.in_ok-pieces.pieces.items ≡ owned_before t c.args.cell n = ap (λ (l : List Piece). length l) c.in_ok-pieces.ensures.list ∙ pieces_long t c.args.cell n in
+    let long : length c.in_ok-pieces.pieces.items ≡ owned_before t c.args.site.now.cell n = ap (λ (l : List Piece). length l) c.in_ok-pieces.ensures.list ∙ pieces_long t c.args.site.now.cell n in
     let counted = c.in_ok-owned.ensures.sum in
     let long_pieces = c.len.ensures in
     let kept = c.in_ok-pieces.pieces.ok.0 in
@@ -32,7 +32,7 @@ partners-requires-clause-from g c =
 pub partners-requires-clause-room : goal.partners-requires-clause-room
 partners-requires-clause-room g c =
     let sum = c.in_ok-more.ensures.sum in
-    let firsts = c.requires.firsts.long in
+    let firsts = c.requires.site.firsts.long in
     omega (arith, sum, firsts)
 
 pub link_all_beside-requires-clause-pairs : goal.link_all_beside-requires-clause-pairs
@@ -40,7 +40,7 @@ link_all_beside-requires-clause-pairs g c =
     let d = g.C.Cells.design c.args.cells.now in
     let w = g.C.Cells.wiring c.args.cells.now in
     let t = g.C.Cells.tables c.args.cells.now in
-    let cell = c.args.cell in
+    let cell = c.args.site.now.cell in
     let n = length w.conductors in
     let pieces = c.in_ok-pieces.pieces.items in
     let from = c.in_ok-owned.owned in
@@ -60,7 +60,7 @@ returns g c =
     let d = g.C.Cells.design c.args.cells.now in
     let w = g.C.Cells.wiring c.args.cells.now in
     let t = g.C.Cells.tables c.args.cells.now in
-    let cell = c.args.cell in
+    let cell = c.args.site.now.cell in
     let pieces = c.in_ok-pieces.pieces.items in
     let from = c.in_ok-owned.owned in
     let pairs = c.in_ok-pairs.pairs.items in

@@ -11,18 +11,18 @@ touching_links-requires g c =
     let d = g.C.Cells.design c.args.cells.now in
     let t = g.C.Cells.tables c.args.cells.now in
     let n = length (g.C.Cells.wiring c.args.cells.now).conductors in
-    let p : Place = place_of c.args.element.now in
+    let p : Place = place_of c.args.placed.now.element.now in
     let first = rw (c.grown-window.ensures, c.in_ok-push.ensures.items, c.new-pieces.ensures.items) at c.in_ok-see_joined.ensures in
-    let seen = beside_seen d t c.args.joins.now c.args.rect.now c.args.conductor c.args.item n p c.args.at c.see_joined.new.out.items c.requires.rect first in
-    rw (c.deref.ensures.value, c.conductors.ensures) (known_pieces (IsBesideSeen d t c.args.joins.now c.args.rect.now c.args.conductor c.args.item n p c.args.at) c.see_joined.new.out.items seen n (beside_known d t c.args.joins.now c.args.rect.now c.args.conductor c.args.item n p c.args.at c.requires.known))
+    let seen = beside_seen d t c.args.joins.now c.args.piece.now.rect c.args.piece.now.conductor c.args.piece.now.item n p c.args.placed.now.at c.see_joined.new.out.items c.requires.rect first in
+    rw (c.deref.ensures.value, c.conductors.ensures) (known_pieces (IsBesideSeen d t c.args.joins.now c.args.piece.now.rect c.args.piece.now.conductor c.args.piece.now.item n p c.args.placed.now.at) c.see_joined.new.out.items seen n (beside_known d t c.args.joins.now c.args.piece.now.rect c.args.piece.now.conductor c.args.piece.now.item n p c.args.placed.now.at c.requires.known))
 
 pub returns : goal.returns
 returns g c =
     let d = g.C.Cells.design c.args.cells.now in
     let t = g.C.Cells.tables c.args.cells.now in
     let n = length (g.C.Cells.wiring c.args.cells.now).conductors in
-    let p : Place = place_of c.args.element.now in
+    let p : Place = place_of c.args.placed.now.element.now in
     let first = rw (c.grown-window.ensures, c.in_ok-push.ensures.items, c.new-pieces.ensures.items) at c.in_ok-see_joined.ensures in
-    let seen = beside_seen d t c.args.joins.now c.args.rect.now c.args.conductor c.args.item n p c.args.at c.see_joined.new.out.items c.requires.rect first in
+    let seen = beside_seen d t c.args.joins.now c.args.piece.now.rect c.args.piece.now.conductor c.args.piece.now.item n p c.args.placed.now.at c.see_joined.new.out.items c.requires.rect first in
     let links = rw c.deref.ensures.value at c.in_ok-links.ensures in
-    links_over (IsBesideSeen d t c.args.joins.now c.args.rect.now c.args.conductor c.args.item n p c.args.at) c.see_joined.new.out.items seen c.args.joins.now c.in_ok-links.links.items links
+    links_over (IsBesideSeen d t c.args.joins.now c.args.piece.now.rect c.args.piece.now.conductor c.args.piece.now.item n p c.args.placed.now.at) c.see_joined.new.out.items seen c.args.joins.now c.in_ok-links.links.items links

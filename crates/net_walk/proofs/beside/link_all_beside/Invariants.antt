@@ -6,4 +6,4 @@ use Rattle.net_walk.specs.Held.{AreHeldLists}
 abbrev pub invariant-loop-pair : goal.invariant-loop-pair
 invariant-loop-pair g l =
     AreHeldLists (g.C.Cells.design l.cells) (g.C.Cells.tables l.cells) l.memo.lists.items
-    × AddsPairsBeside (g.C.Cells.design l.cells) (g.C.Cells.wiring l.cells) (g.C.Cells.tables l.cells) l.cell (length l.pieces) (take l.pair-index l.pairs) l.fn.out.items l.out.items
+    × AddsPairsBeside (g.C.Cells.design l.cells) (g.C.Cells.wiring l.cells) (g.C.Cells.tables l.cells) l.site.cell (length l.pieces) (take l.pair-index l.pairs) l.fn.out.items l.out.items

@@ -1,6 +1,6 @@
 use Rattle.std.proofs.Common.{◌≡◌, ap, refl, ◌∙◌}
 use Rattle.std.proofs.lemmas.Bool.{false≢true}
-use Rattle.net_link_laws.specs.Windows.{common}
+use Rattle.geo_base.specs.Rects.{common}
 use Rattle.net_walk.proofs.Pairing.{window_for, window_none, never_left, never_right}
 use Rattle.net_walk.proofs.children.window_of.Goals as goal
 use Rattle.net_walk.specs.Walk.{place_of}
@@ -19,7 +19,7 @@ returns-then-is_rect-clause-some g c =
     let d = g.C.Cells.design c.args.cells.now in
     let t = g.C.Cells.tables c.args.cells.now in
     let window = c.common-window.ensures ∙ two common c.grown.ensures c.grown-in-Some-span.ensures in
-    let is = rw window at c.if-is_rect.ensures.0 refl in
+    let is = rw window at c.if-is_rect.ensures.rect.0 refl in
     rw window (window_for d t (place_of c.args.one.now) (place_of c.args.other.now) c.in-Some.first c.in-Some-span.second c.in-Some.ensures.some c.in-Some-span.ensures.some is)
 
 pub returns-else-is_rect-clause-none : goal.returns-else-is_rect-clause-none
@@ -27,5 +27,5 @@ returns-else-is_rect-clause-none g c =
     let d = g.C.Cells.design c.args.cells.now in
     let t = g.C.Cells.tables c.args.cells.now in
     let window = c.common-window.ensures ∙ two common c.grown.ensures c.grown-in-Some-span.ensures in
-    let not = rw window at c.if-is_rect.ensures.1 in
+    let not = rw window at c.if-is_rect.ensures.rect.1 in
     window_none d t (place_of c.args.one.now) (place_of c.args.other.now) c.in-Some.first c.in-Some-span.second c.in-Some.ensures.some c.in-Some-span.ensures.some (λ h. false≢true (not h))

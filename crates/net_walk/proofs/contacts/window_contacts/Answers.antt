@@ -1,4 +1,4 @@
-use Rattle.std.proofs.Common.{subst, ◌↔◌, List}
+use Rattle.std.proofs.Common.{subst, ◌↔◌, List, arith}
 use Rattle.link_classes.specs.declared.classes.Link.{Link}
 use Rattle.net_walk.proofs.Contacting.{window_contacts}
 use Rattle.net_walk.proofs.Results.{if_ok}
@@ -7,11 +7,11 @@ use Rattle.net_walk.proofs.contacts.window_contacts.Goals as goal
 use Rattle.net_walk.specs.Contacts.{IsAcross, IsFromTo}
 use Rattle.net_walk.specs.Walk.{place_of}
 
-pub pair_links-requires-clause-motion : goal.pair_links-requires-clause-motion
-pair_links-requires-clause-motion g c = near_close c.args.one.now.motion c.requires.close
+pub pair_links-requires-clause-one : goal.pair_links-requires-clause-one
+pair_links-requires-clause-one g c = let count = c.count-count.ensures in let sum = c.in_ok-more.ensures.sum in record { nets = c.requires.nets; motion = near_close c.args.one.now.motion c.requires.close; room = omega (arith, count, sum) }
 
-pub pair_links-requires-clause-motion_too : goal.pair_links-requires-clause-motion_too
-pair_links-requires-clause-motion_too g c = near_close c.args.other.now.motion c.requires.close_too
+pub pair_links-requires-clause-other : goal.pair_links-requires-clause-other
+pair_links-requires-clause-other g c = record { nets = c.requires.nets_too; motion = near_close c.args.other.now.motion c.requires.close_too; room = (let sum = c.in_ok-more.ensures.sum in omega (arith, sum)) }
 
 pub returns : goal.returns
 returns g c =

@@ -11,5 +11,5 @@ returns g c =
     let d = g.C.Cells.design c.args.cells.now in
     let w = g.C.Cells.wiring c.args.cells.now in
     let t = g.C.Cells.tables c.args.cells.now in
-    let cell = c.args.cell in
+    let cell = c.args.globals.now.cell in
     any_to d w t cell c.args.lines.now (length (places_of d cell)) c.args.out.now.items c.ground_lines.new.out.items c.join_placements.new.out.items refl c.requires.lines c.in_ok-ground_lines.ensures c.in_ok-join_placements.ensures

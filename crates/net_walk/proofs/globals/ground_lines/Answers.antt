@@ -7,7 +7,7 @@ loop-line-init g c =
     let d = g.C.Cells.design c.args.cells.now in
     let w = g.C.Cells.wiring c.args.cells.now in
     let t = g.C.Cells.tables c.args.cells.now in
-    let cell = c.args.cell in
+    let cell = c.args.globals.now.cell in
     no_lines d w t cell c.args.out.now.items
 
 pub ground_line-requires-clause-line : goal.ground_line-requires-clause-line
@@ -21,7 +21,7 @@ loop-line-preserved g c =
     let d = g.C.Cells.design c.args.cells.now in
     let w = g.C.Cells.wiring c.args.cells.now in
     let t = g.C.Cells.tables c.args.cells.now in
-    let cell = c.args.cell in
+    let cell = c.args.globals.now.cell in
     lines_more d w t cell c.args.lines.now c.loop-line.line-index no_ground c.args.out.now.items c.loop-line.out.items c.ground_line.new.out.items (omega arith) c.loop-line.invariant c.in_ok-ground_line.ensures
 
 pub returns : goal.returns
@@ -29,5 +29,5 @@ returns g c =
     let d = g.C.Cells.design c.args.cells.now in
     let w = g.C.Cells.wiring c.args.cells.now in
     let t = g.C.Cells.tables c.args.cells.now in
-    let cell = c.args.cell in
+    let cell = c.args.globals.now.cell in
     lines_all d w t cell c.args.lines.now c.loop-line.line-index c.args.out.now.items c.loop-line.out.items (omega arith) c.loop-line.invariant

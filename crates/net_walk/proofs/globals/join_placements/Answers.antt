@@ -13,18 +13,18 @@ loop-k-init g c =
     let d = g.C.Cells.design c.args.cells.now in
     let w = g.C.Cells.wiring c.args.cells.now in
     let t = g.C.Cells.tables c.args.cells.now in
-    let cell = c.args.cell in
+    let cell = c.args.globals.now.cell in
     no_placement d w t cell c.args.out.now.items
 
 pub join_globals-requires-clause-placed : goal.join_globals-requires-clause-placed
-join_globals-requires-clause-placed g c = element_at c.places-elements.result.now (places_of (g.C.Cells.design c.args.cells.now) c.args.cell) c.loop-k.k c.places-elements.ensures.all (omega arith)
+join_globals-requires-clause-placed g c = element_at c.places-elements.result.now (places_of (g.C.Cells.design c.args.cells.now) c.args.globals.now.cell) c.loop-k.k c.places-elements.ensures.all (omega arith)
 
 pub join_globals-requires-clause-nets : goal.join_globals-requires-clause-nets
 join_globals-requires-clause-nets g c =
     let d = g.C.Cells.design c.args.cells.now in
     let w = g.C.Cells.wiring c.args.cells.now in
     let t = g.C.Cells.tables c.args.cells.now in
-    let cell = c.args.cell in
+    let cell = c.args.globals.now.cell in
     let k = c.loop-k.k in
     let p : Place = place_of (get_or c.places-elements.result.now k no_element) in
     let there : slice_get (places_of d cell) k ≡ Some p = element_at c.places-elements.result.now (places_of d cell) k c.places-elements.ensures.all (omega arith) in
@@ -35,7 +35,7 @@ loop-k-preserved g c =
     let d = g.C.Cells.design c.args.cells.now in
     let w = g.C.Cells.wiring c.args.cells.now in
     let t = g.C.Cells.tables c.args.cells.now in
-    let cell = c.args.cell in
+    let cell = c.args.globals.now.cell in
     placements_more d w t cell c.loop-k.k c.args.out.now.items c.loop-k.out.items c.join_globals.new.out.items c.loop-k.invariant c.in_ok-join_globals.ensures
 
 pub returns : goal.returns
@@ -43,7 +43,7 @@ returns g c =
     let d = g.C.Cells.design c.args.cells.now in
     let w = g.C.Cells.wiring c.args.cells.now in
     let t = g.C.Cells.tables c.args.cells.now in
-    let cell = c.args.cell in
+    let cell = c.args.globals.now.cell in
     let long = as_long c.places-elements.result.now (places_of d cell) c.places-elements.ensures.all in
     let end : c.loop-k.k ≡ length (places_of d cell) = omega arith in
     subst (λ n. AddsToGlobals d w t cell (IsOfPlacements n) c.args.out.now.items c.loop-k.out.items) end c.loop-k.invariant

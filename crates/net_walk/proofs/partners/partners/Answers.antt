@@ -52,7 +52,7 @@ loop-conductor-preserved g c =
     }
 
 pub push_partners-requires-clause-spans : goal.push_partners-requires-clause-spans
-push_partners-requires-clause-spans g c = rw c.deref.ensures.value c.in_ok-spans.ensures
+push_partners-requires-clause-spans g c = record { pieces = rw c.deref.ensures.value c.in_ok-pieces.ensures; from = c.requires.from; room = c.requires.room }
 
 pub returns : goal.returns
 returns g c =

@@ -5,5 +5,5 @@ use Rattle.net_walk.specs.Walk.{place_of}
 
 pub returns : goal.returns
 returns g c =
-    line_seen (g.C.Cells.design c.args.cells.now) (g.C.Cells.tables c.args.cells.now) (place_of c.args.element.now) c.args.window.now c.args.at c.args.line.now c.args.conductor (length (g.C.Cells.wiring c.args.cells.now).conductors)
-    c.args.out.now.items c.see_where.new.out.items c.see_where-2.new.out.items c.in_ok-see_where.ensures c.in_ok-see_where-2.ensures
+    line_seen (g.C.Cells.design c.args.cells.now) (g.C.Cells.tables c.args.cells.now) (place_of c.args.sight.now.placed.element.now) c.args.sight.now.window.now c.args.sight.now.placed.at c.args.line.now c.args.conductor (length (g.C.Cells.wiring c.args.cells.now).conductors)
+    c.args.out.now.items c.see_second.new.out.items c.see_second-2.new.out.items c.in_ok-see_second.ensures c.in_ok-see_second-2.ensures

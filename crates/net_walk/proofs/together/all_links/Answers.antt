@@ -15,8 +15,8 @@ own_links-requires-clause-room g c =
     let fits = c.ranges.items.fits in
     omega (arith, long, items, fits)
 
-pub overflow_sub-items : goal.overflow_sub-items
-overflow_sub-items g c =
+pub overflow_sub-globals : goal.overflow_sub-globals
+overflow_sub-globals g c =
     let d = g.C.Cells.design c.args.cells.now in
     let w = g.C.Cells.wiring c.args.cells.now in
     let t = g.C.Cells.tables c.args.cells.now in
@@ -26,8 +26,18 @@ overflow_sub-items g c =
     let globals = c.requires.globals in
     omega (arith, long, items, globals)
 
-pub global_links-requires-clause-at : goal.global_links-requires-clause-at
-global_links-requires-clause-at g c =
+pub children_links-requires : goal.children_links-requires
+children_links-requires g c = record {
+  site = record {
+    right = c.requires.right;
+    firsts = rw c.deref.ensures.value c.in_ok-firsts.ensures;
+    room = (let items = c.requires.items in let fits = c.ranges.items.fits in omega (arith, items, fits));
+    joins = c.requires.joins;
+  };
+}
+
+pub global_links-requires-clause-globals : goal.global_links-requires-clause-globals
+global_links-requires-clause-globals g c =
     let d = g.C.Cells.design c.args.cells.now in
     let w = g.C.Cells.wiring c.args.cells.now in
     let t = g.C.Cells.tables c.args.cells.now in
@@ -35,7 +45,8 @@ global_links-requires-clause-at g c =
     let long = items_long d w t cell in
     let items = c.requires.items in
     let globals = c.requires.globals in
-    omega (arith, long, items, globals)
+    let fits = c.ranges.items.fits in
+    record { count = globals; at = omega (arith, long, items, globals); room = omega (arith, items, fits) }
 
 pub returns : goal.returns
 returns g c =

@@ -1,6 +1,6 @@
 use Rattle.std.proofs.Common.{refl}
 use Rattle.std.proofs.lemmas.Bool.{false≢true}
-use Rattle.net_link_laws.specs.Windows.{common}
+use Rattle.geo_base.specs.Rects.{common}
 use Rattle.net_walk.proofs.Insides.{part_in, no_part, common_inside, near_inside}
 use Rattle.net_walk.proofs.walk.part_in.Goals as goal
 
@@ -8,7 +8,7 @@ pub rect-requires-clause-near_rect : goal.rect-requires-clause-near_rect
 rect-requires-clause-near_rect c =
     let span = c.rect-span.result in
     let window = c.args.window.now in
-    let is = rw c.common-part.ensures at c.if-is_rect.ensures.0 refl in
+    let is = rw c.common-part.ensures at c.if-is_rect.ensures.rect.0 refl in
     rw c.common-part.ensures (near_inside (common span window) window (common_inside span window is) c.requires.near_window)
 
 pub returns-then-is_rect-clause-some : goal.returns-then-is_rect-clause-some
@@ -18,5 +18,5 @@ returns-then-is_rect-clause-some c =
 
 pub returns-clause-none : goal.returns-clause-none
 returns-clause-none c =
-    let not = rw c.common-part.ensures at c.if-is_rect.ensures.1 in
+    let not = rw c.common-part.ensures at c.if-is_rect.ensures.rect.1 in
     no_part c.args.motion.now c.args.hull.now c.rect-span.result c.args.window.now c.rect-span.ensures.squares (λ h. false≢true (not h))

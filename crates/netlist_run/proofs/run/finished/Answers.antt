@@ -2,7 +2,7 @@ use Rattle.std.proofs.Common.{◌∙◌, ap, map, length, List, ℕ}
 use Rattle.netlist_join.specs.declared.join.Origin.{Origin}
 use Rattle.netlist_turn.specs.Seen.{told_seen}
 use Rattle.netlist_turn.specs.declared.made.Told.{Told}
-use Rattle.netlist_told.specs.Sums.{told_text}
+use Rattle.netlist_run.specs.Sums.{told_text}
 use Rattle.netlist_run.proofs.run.finished.Goals as goal
 
 pub returns-clause-lines : goal.returns-clause-lines

@@ -1,7 +1,7 @@
 use Rattle.std.proofs.Common.{◌≡◌, false, rules, subst, List, ℕ, Option}
 use Rattle.std.specs.Option.{option_copied}
 use Rattle.netlist_join.specs.declared.join.Origin.{Origin}
-use Rattle.netlist_plan.specs.Defined.{SaysFault, defined}
+use Rattle.netlist_run.specs.Defined.{SaysFault, defined}
 use Rattle.netlist_run.specs.Accepted.{NoTop}
 use Rattle.netlist_run.specs.Lines.{Says, SaysTurn, no_top_line}
 use Rattle.netlist_run.specs.Words.{asked_seen}

@@ -2,7 +2,7 @@ use Rattle.std.proofs.Common.{◌≡◌, subst, Ok, IfOk, length, List, ℕ}
 use Rattle.netlist_join.specs.declared.join.Origin.{Origin}
 use Rattle.netlist_turn.specs.Seen.{SaysFault, seen}
 use Rattle.netlist_turn.specs.Turning.{turned}
-use Rattle.netlist_told.specs.Sums.{told_text}
+use Rattle.netlist_run.specs.Sums.{told_text}
 use Rattle.netlist_run.specs.Lines.{SaysTurn}
 use Rattle.netlist_run.specs.Words.{asked_seen}
 use Rattle.netlist_run.proofs.Leaving.{output_is}

@@ -15,5 +15,5 @@ invariant-loop-i l = record {
   i_in : l.i ≤ length l.parts.lines.at.items + 1;
   a : AreFirst l.i l.parts.lines l.parts.a.items l.a;
   b : AreFirst l.i l.parts.lines l.parts.b.items l.b;
-  joined : AreJoined l.i l.parts.lines.axis l.parts.lines.at.items (combined_set l.rule l.a l.b) l.done.items l.rest.items;
+  joined : AreJoined l.i l.parts.lines.axis l.parts.lines.at.items (combined_set l.op l.a l.b) l.done.items l.rest.items;
 }

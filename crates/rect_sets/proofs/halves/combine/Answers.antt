@@ -10,4 +10,4 @@ blocks_in_parts-requires-clause-balanced c = rw c.in_ok-edges.ensures (balanced_
 pub returns : goal.returns
 returns c =
     let h = rw c.in_ok-edges.ensures at c.in_ok-rects.ensures in
-    blocks_both c.args.rule c.args.a.now c.args.b.now c.in_ok-rects.rects.items c.requires.a c.requires.b h
+    blocks_both c.args.op c.args.a.now c.args.b.now c.in_ok-rects.rects.items c.requires.a c.requires.b h

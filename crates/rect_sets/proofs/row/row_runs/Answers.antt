@@ -11,7 +11,7 @@ use Rattle.rect_sets.proofs.row.row_runs.Goals as goal
 pub loop-edge-init : goal.loop-edge-init
 loop-edge-init c =
     let f1 : SFits w64 c.args.low = search rules in
-    rw c.clear.ensures.items (simp to_z-of_z (row_none c.args.rule c.args.edges.now c.args.low c.requires.in_order))
+    rw c.clear.ensures.items (simp to_z-of_z (row_none c.args.op c.args.edges.now c.args.low c.requires.in_order))
 
 pub grow-requires-clause-order : goal.grow-requires-clause-order
 grow-requires-clause-order c =
@@ -38,7 +38,7 @@ loop-edge-preserved c =
     let s2 : IsSumOf second_of edges (i + 1) second = subst (λ (z : ℤ). IsSumOf second_of edges (i + 1) z) (sym e2) (sum_more second_of edges i zero _ (omega arith) (omega (arith, ints)) (omega (arith, ints)) so.second_sum) in
     let ex : to_z w64 (of_z w64 (get_or edges i zero).x) ≡ (get_or edges i zero).x = to_z-of_z w64 (get_or edges i zero).x f1 in
     let grown = rw (ex, c.holds-inside.ensures) at c.in_ok-grow.ensures in
-    rw ex (row_more c.args.rule edges i zero _ _ _ first second c.loop-edge.out.items c.grow.new.out.items (omega arith) so grown s1 s2)
+    rw ex (row_more c.args.op edges i zero _ _ _ first second c.loop-edge.out.items c.grow.new.out.items (omega arith) so grown s1 s2)
 
 pub returns : goal.returns
-returns c = row_all c.args.rule c.args.edges.now c.loop-edge.edge-index (to_z w64 c.loop-edge.from-bits) (to_z w128 c.loop-edge.first-bits) (to_z w128 c.loop-edge.second-bits) c.loop-edge.out.items (omega arith) c.requires.first_balanced c.requires.second_balanced c.loop-edge.invariant
+returns c = row_all c.args.op c.args.edges.now c.loop-edge.edge-index (to_z w64 c.loop-edge.from-bits) (to_z w128 c.loop-edge.first-bits) (to_z w128 c.loop-edge.second-bits) c.loop-edge.out.items (omega arith) c.requires.first_balanced c.requires.second_balanced c.loop-edge.invariant

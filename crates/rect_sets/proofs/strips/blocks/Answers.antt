@@ -10,4 +10,4 @@ sorted_blocks-requires-clause-balanced c = rw c.deref.ensures.value (balanced_pe
 pub returns : goal.returns
 returns c =
     let h = rw c.deref.ensures.value at c.in_ok-rects.ensures in
-    blocks_permuted c.args.rule c.args.edges.items c.sort_edges.new.edges.items _ c.in_ok-sort_edges.ensures.permutation h
+    blocks_permuted c.args.op c.args.edges.items c.sort_edges.new.edges.items _ c.in_ok-sort_edges.ensures.permutation h

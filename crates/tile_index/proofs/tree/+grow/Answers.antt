@@ -19,10 +19,10 @@ push_node-requires-2-clause-above t c =
 
 pub push_node-requires-2-clause-hull : goal.push_node-requires-2-clause-hull
 push_node-requires-2-clause-hull t c =
-    subst (λ (r : Rect). HoldsRange c.args.entries.now c.args.from c.args.to r) (sym c.union-hull.ensures)
+    subst (λ (r : Rect). HoldsRange c.args.entries.now c.args.from c.args.to r) (sym c.bounding_box-hull.ensures)
     (holds_both c.args.entries.now c.args.from _ c.args.to c.in_ok-early.early c.in_ok-late.late c.in_ok-early.ensures.holds c.in_ok-late.ensures.holds)
 
 pub returns-clause-holds : goal.returns-clause-holds
 returns-clause-holds t c =
-    subst (λ (r : Rect). HoldsRange c.args.entries.now c.args.from c.args.to r) (sym c.union-hull.ensures)
+    subst (λ (r : Rect). HoldsRange c.args.entries.now c.args.from c.args.to r) (sym c.bounding_box-hull.ensures)
     (holds_both c.args.entries.now c.args.from _ c.args.to c.in_ok-early.early c.in_ok-late.late c.in_ok-early.ensures.holds c.in_ok-late.ensures.holds)

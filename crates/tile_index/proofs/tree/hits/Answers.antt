@@ -15,7 +15,7 @@ loop-i-smaller-then-not-meets c =
 pub loop-i-preserved-then-not-meets : goal.loop-i-preserved-then-not-meets
 loop-i-preserved-then-not-meets c =
     walked_past c.args.w.now c.args.entries.now c.args.nodes.now c.loop-i.i zero_node c.loop-i.found.items c.requires.nodes_are c.loop-i-test.true c.loop-i.invariant
-    (sym c.meets.ensures ∙ c.if-not-meets.true)
+    (sym c.meets.ensures.exact ∙ c.if-not-meets.true)
 
 pub push_under-requires : goal.push_under-requires
 push_under-requires c =

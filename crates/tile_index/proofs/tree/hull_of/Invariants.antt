@@ -1,5 +1,5 @@
 use Rattle.std.proofs.Common.{◌≡◌, ◌<◌, ℕ, Some, slice_get}
-use Rattle.tile_index.specs.Windows.{IsInside}
+use Rattle.geo_base.specs.Rects.{IsInside}
 use Rattle.tile_index.specs.declared.entries.Entry.{Entry}
 use Rattle.tile_index.proofs.tree.hull_of.Given as goal
 

@@ -15,9 +15,9 @@ loop-entry-preserved c =
           rw w.found-is (
           (w.in_ok-push.ensures {u = tt}).items
           ∙ ap (λ (ks : List ℕ). ks ++ (get_or entries i d).position ∷ []) c.loop-entry.invariant
-          ∙ hit_pushed window entries i d c.args.found.now.items c.loop-entry-test.true (sym c.meets.ensures ∙ w.if-meets.true))
+          ∙ hit_pushed window entries i d c.args.found.now.items c.loop-entry-test.true (sym c.meets.ensures.exact ∙ w.if-meets.true))
       | else-meets w ↦
           rw w.found-is (
           c.loop-entry.invariant
-          ∙ ap (λ (ks : List ℕ). c.args.found.now.items ++ ks) (hit_passed window entries i d c.loop-entry-test.true (sym c.meets.ensures ∙ w.if-meets.false)))
+          ∙ ap (λ (ks : List ℕ). c.args.found.now.items ++ ks) (hit_passed window entries i d c.loop-entry-test.true (sym c.meets.ensures.exact ∙ w.if-meets.false)))
     ]

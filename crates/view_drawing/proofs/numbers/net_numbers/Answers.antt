@@ -2,7 +2,7 @@ use Rattle.std.proofs.Common.{◌≡◌, ◌∙◌, ℕ, List, Option, [], ap, m
 use Rattle.deep_tables.specs.Pins.{plain_pins}
 use Rattle.spice_text.specs.Needs.{first_seen}
 use Rattle.text_table.specs.Texts.{place_of}
-use Rattle.view_nets.specs.Shown.{TellsNets}
+use Rattle.view_drawing.specs.Shown.{TellsNets}
 use Rattle.view_drawing.specs.Numbers.{spread}
 use Rattle.view_drawing.proofs.Telling.{names_few, numbers_tell}
 use Rattle.view_drawing.proofs.numbers.net_numbers.Goals as goal

@@ -14,8 +14,8 @@ use Rattle.net_phase.specs.Own.{rect_lists}
 use Rattle.net_phase.specs.Reading.{nets_of}
 use Rattle.rule_text.specs.Reaches.{MOST_REACH}
 use Rattle.rule_text.specs.Seen.{rules_seen}
-use Rattle.view_nets.specs.Nets.{list_at}
-use Rattle.view_nets.specs.Shown.{AreNetsDrawn, TellsNets}
+use Rattle.view_drawing.specs.Nets.{list_at}
+use Rattle.view_drawing.specs.Shown.{AreNetsDrawn, TellsNets}
 use Rattle.view_shapes.specs.Shown.{ShowsFar, called_by}
 use Rattle.view_drawing.specs.Drawn.{drawn_in, listed_tables}
 use Rattle.view_drawing.proofs.Marking.{drawn_is}

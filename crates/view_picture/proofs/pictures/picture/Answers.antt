@@ -18,14 +18,14 @@ returns-clause-small c = record {
 }
 
 pub join_all-requires-clause-drawings : goal.join_all-requires-clause-drawings
-join_all-requires-clause-drawings c = subst (λ (l : List Drawing). AreAllSmall l) (sym c.deref-2.ensures.value) c.requires.small
+join_all-requires-clause-drawings c = subst (λ (l : List Drawing). AreAllSmall l) (sym c.deref-4.ensures.value) c.requires.small
 
 pub join_all-requires-clause-listed : goal.join_all-requires-clause-listed
 join_all-requires-clause-listed c =
-    subst (λ (l : List Drawing). HaveRegions (areas_of c.args.sketch.regions.regions.items) l) (sym c.deref-2.ensures.value) c.requires.listed
+    subst (λ (l : List Drawing). HaveRegions (areas_of c.args.drawn.sketch.regions.regions.items) l) (sym c.deref-4.ensures.value) c.requires.listed
 
 pub returns-in_err-joined-clause-far : goal.returns-in_err-joined-clause-far
 returns-in_err-joined-clause-far c =
     let e = err_from_is_err_and c.from_residual-in_err-joined.result c.from_residual-in_err-joined.ensures.1 in
     let o = plain_all c.args.origins.now in
-    rw (e.1, e.2) (λ s. subst (λ (l : List Drawing). HasFarJoined o.insides o.circuits l (areas_of c.args.sketch.regions.regions.items)) c.deref-2.ensures.value (c.in_err-joined.ensures.far (err_as _ _ s)))
+    rw (e.1, e.2) (λ s. subst (λ (l : List Drawing). HasFarJoined o.insides o.circuits l (areas_of c.args.drawn.sketch.regions.regions.items)) c.deref-4.ensures.value (c.in_err-joined.ensures.far (err_as _ _ s)))

@@ -19,7 +19,7 @@ use Rattle.view_labels.specs.Labels.{numbers_of}
 use Rattle.view_picture.proofs.Listed.{regions_listed}
 use Rattle.view_run.specs.Far.{Aligned, HasFarBy, Written}
 use Rattle.view_run.specs.Sketched.{IsSketchOf}
-use Rattle.view_run.specs.declared.drawing.Sketched.{Sketched}
+use Rattle.view_picture.specs.declared.pictures.Sketched.{Sketched}
 use Rattle.view_run.proofs.Pictured.{pictured}
 use Rattle.view_run.specs.Views.{ArePictured, AreWritten, names_of}
 use Rattle.view_run.proofs.Assembled.{far_aligned, is_view, line_as, layout_alignable, layout_ordered, not_drawn, not_made, schematic_alignable, top_of_both, top_there}

@@ -3,7 +3,7 @@ use Rattle.std.proofs.lemmas.Result.{err_from_is_err_and}
 use Rattle.net_model.specs.Rows.{plain_netlist}
 use Rattle.rule_text.specs.Seen.{rules_seen}
 use Rattle.lvs_run.proofs.Stopping.{quiet_on}
-use Rattle.view_options.specs.Stated.{asked_of}
+use Rattle.view_run.specs.Stated.{asked_of}
 use Rattle.view_run.proofs.Preparing.{is_ready, is_some_map, layout_stop, made_stop, rules_stop, schematic_stop}
 use Rattle.view_run.proofs.run.prepare.Goals as goal
 

@@ -1,4 +1,4 @@
-use Rattle.view_options.specs.Stated.{asked_of}
+use Rattle.view_run.specs.Stated.{asked_of}
 use Rattle.view_run.proofs.Ending.{outside_stop, ready_apart, ready_room, refused_run, wrote_run}
 use Rattle.view_run.proofs.run.run_task.Goals as goal
 

@@ -1,7 +1,7 @@
 use Rattle.std.proofs.Common.{Err, ap, map, refl, string_bytes, ◌∙◌}
 use Rattle.std.specs.Option.{option_map}
 use Rattle.lvs_run.specs.declared.status.Refusal.TheVariants as refusal
-use Rattle.view_options.specs.Stated.{asked_of}
+use Rattle.view_run.specs.Stated.{asked_of}
 use Rattle.view_run.proofs.Apart.{page_apart}
 use Rattle.view_run.proofs.Ending.{comes_shows, same_run, words_run}
 use Rattle.view_run.proofs.run.run_view.Goals as goal

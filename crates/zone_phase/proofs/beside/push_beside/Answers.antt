@@ -14,6 +14,6 @@ push_onto-requires-clause-within c =
 pub loop-window-preserved : goal.loop-window-preserved
 loop-window-preserved c = record {
   rects = c.in_ok-push_onto.ensures.rects;
-  exact = beside_more c.args.design.now c.args.parent c.args.index c.args.key c.args.place.now c.args.hull.now c.args.windows.now c.loop-window.window-index no_rect c.in_ok-rects.rects.items c.args.out.now.items c.loop-window.out.items c.push_onto.new.out.items c.loop-window-test.true c.in_ok-rects.ensures.exact c.loop-window.invariant.exact
-      (subst (λ (l : List Rect). Adds c.args.place.now c.args.hull.now (OnRects c.args.place.now l) c.loop-window.out.items c.push_onto.new.out.items) c.deref.ensures.value c.in_ok-push_onto.ensures.exact);
+  exact = beside_more c.args.frame.now.design.now c.args.parent c.args.index c.args.frame.now.key c.args.place.now c.args.frame.now.grown c.args.windows.now c.loop-window.window-index no_rect c.in_ok-rects.rects.items c.args.out.now.items c.loop-window.out.items c.push_onto.new.out.items c.loop-window-test.true c.in_ok-rects.ensures.exact c.loop-window.invariant.exact
+      (subst (λ (l : List Rect). Adds c.args.place.now c.args.frame.now.grown (OnRects c.args.place.now l) c.loop-window.out.items c.push_onto.new.out.items) c.deref.ensures.value c.in_ok-push_onto.ensures.exact);
 }

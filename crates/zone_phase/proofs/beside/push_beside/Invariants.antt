@@ -7,5 +7,5 @@ use Rattle.zone_phase.proofs.beside.push_beside.Given as goal
 abbrev pub invariant-loop-window : goal.invariant-loop-window
 invariant-loop-window l = record {
   rects : All IsRect l.out.items;
-  exact : Adds l.place l.hull (BesideIn (take l.window-index l.windows) l.design l.parent l.index l.key l.place) l.fn.out.items l.out.items;
+  exact : Adds l.place l.frame.grown (BesideIn (take l.window-index l.windows) l.frame.design.now l.parent l.index l.frame.key l.place) l.fn.out.items l.out.items;
 }

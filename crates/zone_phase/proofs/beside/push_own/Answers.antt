@@ -23,8 +23,8 @@ loop-window-preserved c =
     let window = slice_index_or c.args.windows.now c.loop-window.window-index no_rect in
     record {
       rects = c.in_ok-push_onto.ensures.rects;
-      exact = among_more c.args.place.now c.args.hull.now (own_of (cell_at c.args.design.now c.args.parent) c.args.key) c.args.windows.now c.loop-window.window-index no_rect c.push_pieces.new.out.items c.args.out.now.items c.loop-window.out.items c.push_onto.new.out.items c.loop-window-test.true
-          (λ q. pieces_of c.push_pieces.new.out.items c.new-pieces.result.items c.rects-own.result.now (own_of (cell_at c.args.design.now c.args.parent) c.args.key) window q c.new-pieces.ensures.items (c.rects-own.ensures.list ∙ c.own.ensures) (c.in_ok-push_pieces.ensures.covers q))
+      exact = among_more c.args.place.now c.args.frame.now.grown (own_of (cell_at c.args.frame.now.design.now c.args.parent) c.args.frame.now.key) c.args.windows.now c.loop-window.window-index no_rect c.push_pieces.new.out.items c.args.out.now.items c.loop-window.out.items c.push_onto.new.out.items c.loop-window-test.true
+          (λ q. pieces_of c.push_pieces.new.out.items c.new-pieces.result.items c.rects-own.result.now (own_of (cell_at c.args.frame.now.design.now c.args.parent) c.args.frame.now.key) window q c.new-pieces.ensures.items (c.rects-own.ensures.list ∙ c.own.ensures) (c.in_ok-push_pieces.ensures.covers q))
           c.loop-window.invariant.exact
-          (subst (λ (l : List Rect). Adds c.args.place.now c.args.hull.now (OnRects c.args.place.now l) c.loop-window.out.items c.push_onto.new.out.items) c.deref-in-loop-window.ensures.value c.in_ok-push_onto.ensures.exact);
+          (subst (λ (l : List Rect). Adds c.args.place.now c.args.frame.now.grown (OnRects c.args.place.now l) c.loop-window.out.items c.push_onto.new.out.items) c.deref-in-loop-window.ensures.value c.in_ok-push_onto.ensures.exact);
     }

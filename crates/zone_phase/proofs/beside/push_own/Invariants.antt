@@ -8,5 +8,5 @@ use Rattle.zone_phase.proofs.beside.push_own.Given as goal
 abbrev pub invariant-loop-window : goal.invariant-loop-window
 invariant-loop-window l = record {
   rects : All IsRect l.out.items;
-  exact : Adds l.place l.hull (OnRectsIn (take l.window-index l.windows) l.place (own_of (cell_at l.design l.parent) l.key)) l.fn.out.items l.out.items;
+  exact : Adds l.place l.frame.grown (OnRectsIn (take l.window-index l.windows) l.place (own_of (cell_at l.frame.design.now l.parent) l.frame.key)) l.fn.out.items l.out.items;
 }

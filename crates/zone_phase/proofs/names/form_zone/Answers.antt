@@ -9,11 +9,11 @@ use Rattle.zone_phase.proofs.names.form_zone.Goals as goal
 pub returns-in-Binary : goal.returns-in-Binary
 returns-in-Binary g c =
     if_ok _ _ c.two_zones.result
-    (λ r h trees all. subst (λ (f : LayerForm). IsFramedZone c.args.margin c.args.design.now (inputs (formula_by trees f)) c.args.cell r) (sym c.in-Binary.is) (h c.args.margin c.args.design.now c.args.cell trees all))
+    (λ r h trees all. subst (λ (f : LayerForm). IsFramedZone c.args.used.now.margin c.args.used.now.design.now (inputs (formula_by trees f)) c.args.used.now.cell r) (sym c.in-Binary.is) (h c.args.used.now.margin c.args.used.now.design.now c.args.used.now.cell trees all))
     c.two_zones.ensures
 
 pub returns-in-Sized : goal.returns-in-Sized
 returns-in-Sized g c =
     if_ok _ _ c.one_zone.result
-    (λ r h trees all. subst (λ (f : LayerForm). IsFramedZone c.args.margin c.args.design.now (inputs (formula_by trees f)) c.args.cell r) (sym c.in-Sized.is) (h c.args.margin c.args.design.now c.args.cell trees all))
+    (λ r h trees all. subst (λ (f : LayerForm). IsFramedZone c.args.used.now.margin c.args.used.now.design.now (inputs (formula_by trees f)) c.args.used.now.cell r) (sym c.in-Sized.is) (h c.args.used.now.margin c.args.used.now.design.now c.args.used.now.cell trees all))
     c.one_zone.ensures

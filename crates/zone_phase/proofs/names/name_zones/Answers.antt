@@ -15,41 +15,41 @@ use Rattle.zone_phase.proofs.names.name_zones.Goals as goal
 pub form_zone-requires-clause-entries : goal.form_zone-requires-clause-entries
 form_zone-requires-clause-entries g c =
     let had = c.loop-name.invariant in let names = c.args.names.now in let rule = c.index-names-name.result in let name = c.loop-name.name in
-    form_entries c.args.margin c.args.design.now (g.R.Reads.value c.args.reads.now) had.0 (formulas names) name c.args.uses.now rule.form had.2
+    form_entries c.args.used.now.margin c.args.used.now.design.now (g.R.Reads.value c.args.reads.now) had.0 (formulas names) name c.args.used.now.uses.now rule.form had.2
     (λ k x e. subst (λ (l : List Formula). slice_get l k ≡ Some x) (one_on had.0 names name rule c.loop-name-test.true (sym c.index-names-name.is) ∙ had.1) (behind_stays (had.0 ++ formula_by had.0 rule.form ∷ []) (drop (name + 1) names) k x e))
     c.requires.entries
 
 pub loop-name-preserved : goal.loop-name-preserved
 loop-name-preserved g c =
     let had = c.loop-name.invariant in let names = c.args.names.now in let rule = c.index-names-name.result in let name = c.loop-name.name in
-    let d = c.args.design.now in let tree = formula_by had.0 rule.form in let sets = c.loop-name.sets.items in let set = c.in_ok-set.set in
+    let d = c.args.used.now.design.now in let tree = formula_by had.0 rule.form in let sets = c.loop-name.sets.items in let set = c.in_ok-set.set in
     let e = c.in_ok-push_set.ensures.list in (
       had.0 ++ tree ∷ [],
       one_on had.0 names name rule c.loop-name-test.true (sym c.index-names-name.is) ∙ had.1,
       length-append had.0 (tree ∷ []) ∙ ap (λ (n : ℕ). n + 1) had.2,
       ap length e ∙ length-append sets (set ∷ []) ∙ ap (λ (n : ℕ). n + 1) had.3,
-      subst (AreNameZones c.args.margin d c.args.cell (had.0 ++ tree ∷ [])) (sym e) (names_more c.args.margin d c.args.cell had.0 tree sets set (had.3 ∙ sym had.2) had.4
-          (c.in_ok-set.ensures had.0 (subst (AreNameZones c.args.margin d c.args.cell had.0) (sym c.deref.ensures.value) had.4))),
+      subst (AreNameZones c.args.used.now.margin d c.args.used.now.cell (had.0 ++ tree ∷ [])) (sym e) (names_more c.args.used.now.margin d c.args.used.now.cell had.0 tree sets set (had.3 ∙ sym had.2) had.4
+          (c.in_ok-set.ensures had.0 (subst (AreNameZones c.args.used.now.margin d c.args.used.now.cell had.0) (sym c.deref.ensures.value) had.4))),
       c.in_ok-push_set.ensures.canonical,
     )
 
 pub loop-name-init : goal.loop-name-init
 loop-name-init g c =
-    let d = c.args.design.now in let e = c.new-sets.ensures.items in (
+    let d = c.args.used.now.design.now in let e = c.new-sets.ensures.items in (
       [],
       refl,
       refl,
       ap length e,
-      subst (λ (l : List (List Rect)). AreNameZones c.args.margin d c.args.cell [] l) (sym e) (no_names c.args.margin d c.args.cell),
+      subst (λ (l : List (List Rect)). AreNameZones c.args.used.now.margin d c.args.used.now.cell [] l) (sym e) (no_names c.args.used.now.margin d c.args.used.now.cell),
       subst (λ (l : List (List Rect)). All IsCanonical l) (sym e) (All-nil IsCanonical),
     )
 
 pub form_zone-requires-clause-neighbours : goal.form_zone-requires-clause-neighbours
 form_zone-requires-clause-neighbours g c =
-    subst (λ (l : List Neighbour). AreNear c.args.margin c.args.design.now c.args.cell c.args.uses.now l) (sym c.deref-in-loop-name.ensures.value) c.in_ok-neighbours.ensures
+    subst (λ (l : List Neighbour). AreNear c.args.used.now.margin c.args.used.now.design.now c.args.used.now.cell c.args.used.now.uses.now l) (sym c.deref-in-loop-name.ensures.value) c.in_ok-neighbours.ensures
 
 pub returns-clause-zones : goal.returns-clause-zones
 returns-clause-zones g c =
     let had = c.loop-name.invariant in let names = c.args.names.now in
     let all : had.0 ≡ formulas names = sym (at_drop_all (formulas_behind had.0) names c.loop-name.name (let past = c.loop-name-test.false in omega arith)) ∙ had.1 in
-    subst (λ (trees : List Formula). AreNameZones c.args.margin c.args.design.now c.args.cell trees c.loop-name.sets.items) all had.4
+    subst (λ (trees : List Formula). AreNameZones c.args.used.now.margin c.args.used.now.design.now c.args.used.now.cell trees c.loop-name.sets.items) all had.4

@@ -9,4 +9,4 @@ use Rattle.zone_phase.proofs.names.name_zones.Given as goal
 abbrev pub invariant-loop-name : goal.invariant-loop-name
 invariant-loop-name g l =
     (trees : List Formula) × (formulas_behind trees (drop l.name l.names) ≡ formulas l.names) × (length trees ≡ l.name) × (length l.sets.items ≡ l.name)
-    × AreNameZones l.margin l.design l.cell trees l.sets.items × All IsCanonical l.sets.items
+    × AreNameZones l.used.margin l.used.design.now l.used.cell trees l.sets.items × All IsCanonical l.sets.items

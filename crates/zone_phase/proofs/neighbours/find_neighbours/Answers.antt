@@ -10,14 +10,14 @@ abbrev no_use : Use
 no_use = record { job = 0; index = 0 }
 
 pub push_use-requires-clause-use_of : goal.push_use-requires-clause-use_of
-push_use-requires-clause-use_of c = c.requires.uses.each c.loop-at.at _ (slice_get-get_or c.args.uses.now c.loop-at.at no_use (omega arith))
+push_use-requires-clause-use_of c = c.requires.used.uses.each c.loop-at.at _ (slice_get-get_or c.args.used.now.uses.now c.loop-at.at no_use (omega arith))
 
 pub push_use-requires-clause-there : goal.push_use-requires-clause-there
-push_use-requires-clause-there c = slice_get-get_or c.args.uses.now c.loop-at.at no_use (omega arith)
+push_use-requires-clause-there c = slice_get-get_or c.args.used.now.uses.now c.loop-at.at no_use (omega arith)
 
 pub loop-at-preserved : goal.loop-at-preserved
 loop-at-preserved c =
-    let d = c.args.design.now in let uses = c.args.uses.now in let i = c.loop-at.at in
+    let d = c.args.used.now.design.now in let uses = c.args.used.now.uses.now in let i = c.loop-at.at in
     let within : i < length uses = omega arith in
     let at = slice_get-get_or uses i no_use within in
     let e = c.in_ok-push_use.ensures in
@@ -33,5 +33,5 @@ loop-at-preserved c =
 
 pub returns-clause-all : goal.returns-clause-all
 returns-clause-all c =
-    let end : c.loop-at.at ≡ length c.args.uses.now = omega arith in
-    subst (λ n. AreAllNear c.args.design.now c.args.grown.now c.args.uses.now n c.loop-at.memo.list.items) end c.loop-at.invariant.all
+    let end : c.loop-at.at ≡ length c.args.used.now.uses.now = omega arith in
+    subst (λ n. AreAllNear c.args.used.now.design.now c.args.grown.now c.args.used.now.uses.now n c.loop-at.memo.list.items) end c.loop-at.invariant.all

@@ -31,13 +31,13 @@ push_around-requires-clause-parent c = ap (λ (o : List ℕ). slice_index o (len
 
 pub push_around-requires-clause-there : goal.push_around-requires-clause-there
 push_around-requires-clause-there c =
-    let d = c.args.design.now in let u = c.args.found.now in let used = c.requires.use_of in let o = c.order-order.result.now in
+    let d = c.args.used.now.design.now in let u = c.args.found.now in let used = c.requires.use_of in let o = c.order-order.result.now in
     let is = at_use d u o c.places.result.now used.place c.order-order.ensures c.places.ensures used.there in
     item_at c.places.result.now (places_at (cell_at d (cell_by o u))) u.index no_place c.places.ensures is.1
 
 pub returns-then-is_again-clause-all : goal.returns-then-is_again-clause-all
 returns-then-is_again-clause-all c = λ p at apart.
-    let d = c.args.design.now in let u = c.args.found.now in let uses = c.args.uses.now in let o = c.order-order.result.now in
+    let d = c.args.used.now.design.now in let u = c.args.found.now in let uses = c.args.used.now.uses.now in let o = c.order-order.result.now in
     let first = at_use d u o c.places.result.now p c.order-order.ensures c.places.ensures at in
     let second = at_use d u o c.places-2.result.now p c.order-order.ensures c.places-2.ensures at in
     let again = c.is_again.ensures c.if-is_again.true in
@@ -47,7 +47,7 @@ returns-then-is_again-clause-all c = λ p at apart.
 
 pub returns-clause-all : goal.returns-clause-all
 returns-clause-all c = λ p at apart.
-    let d = c.args.design.now in let u = c.args.found.now in let new = c.push_around.new.memo.list.items in
+    let d = c.args.used.now.design.now in let u = c.args.found.now in let new = c.push_around.new.memo.list.items in
     let is = at_use d u c.order-order.result.now c.places.result.now p c.order-order.ensures c.places.ensures at in
     subst (λ (x : Place). IsAllNear d c.args.grown.now (downward_cell d u.job) u.index x new) is.2
     (subst (λ (o : List ℕ). IsAllNear d c.args.grown.now (slice_index o (length o - 1 - u.job)) u.index (slice_index_or c.places.result.now u.index no_place) new) c.order-order.ensures c.in_ok-push_around.ensures.all)

@@ -16,11 +16,11 @@ push_images-requires-clause-near_rects c =
 
 pub returns-clause-exact : goal.returns-clause-exact
 returns-clause-exact c =
-    siblings_add c.args.design.now c.args.place.now c.args.key c.args.grown.now c.element_rect-window.result c.motion_at-first.result c.inverse.result
+    siblings_add c.args.frame.now.design.now c.args.place.now c.args.frame.now.key c.args.frame.now.grown c.element_rect-window.result c.motion_at-first.result c.inverse.result
     c.new-there.result.items c.push_others.new.there.items
     c.new-more.result.items c.push_images.new.out.items c.args.out.now.items c.extend_from_slice.new.self.items
-    c.requires.rows c.requires.columns c.requires.grown.some c.new-there.ensures.items c.new-more.ensures.items
+    c.requires.array.rows c.requires.array.columns c.requires.grown.some c.new-there.ensures.items c.new-more.ensures.items
     c.motion_at-first.ensures.exact c.element_rect-window.ensures.exact c.inverse.ensures.back
     c.in_ok-push_others.ensures.exact
-    (subst (λ (l : List Rect). (s : Square) → covers c.push_images.new.out.items (moved_square c.inverse.result s) ≡ (covers c.new-more.result.items (moved_square c.inverse.result s) || (covers l s && has c.args.grown.now (moved_square c.inverse.result s)))) c.deref.ensures.value c.in_ok-push_images.ensures.covers)
+    (subst (λ (l : List Rect). (s : Square) → covers c.push_images.new.out.items (moved_square c.inverse.result s) ≡ (covers c.new-more.result.items (moved_square c.inverse.result s) || (covers l s && has c.args.frame.now.grown (moved_square c.inverse.result s)))) c.deref.ensures.value c.in_ok-push_images.ensures.covers)
     (c.in_ok-extend_from_slice.ensures.items ∙ ap (λ (l : List Rect). c.args.out.now.items ++ l) c.deref-2.ensures.value)

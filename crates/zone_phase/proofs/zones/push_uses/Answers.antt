@@ -24,7 +24,7 @@ loop-found-preserved g c =
     let brings = c.in_ok-push_use.ensures.exact in
     record {
       rects = c.in_ok-room.ensures.rects;
-      exact = uses_more c.args.design.now (g.R.Reads.value c.args.reads.now) c.args.name c.args.cell c.args.key c.args.grown.now c.args.uses.now c.loop-found.found-index (slice_index_or c.args.uses.now c.loop-found.found-index no_use)
+      exact = uses_more c.args.frame.now.design.now (g.R.Reads.value c.args.reads.now) c.args.name c.args.frame.now.cell c.args.frame.now.key c.args.frame.now.grown c.args.uses.now c.loop-found.found-index (slice_index_or c.args.uses.now c.loop-found.found-index no_use)
           c.args.out.now.items c.loop-found.out.items c.thin.new.out.items (slice_get-get_or c.args.uses.now c.loop-found.found-index no_use c.loop-found-test.true) c.loop-found.invariant.exact
           (λ q. (λ h. (brings q).0 (sym (same q) ∙ h), λ s. same q ∙ (brings q).1 s));
     }
@@ -32,9 +32,9 @@ loop-found-preserved g c =
 pub returns-clause-exact : goal.returns-clause-exact
 returns-clause-exact g c =
     let e : c.loop-found.found-index ≡ length c.args.uses.now = (let a = c.loop-found-test.false in let b = c.loop-found.auto.found-index-end in omega arith) in
-    subst (λ (n : ℕ). GrownBy c.args.design.now (g.R.Reads.value c.args.reads.now) c.args.name c.args.cell c.args.key c.args.grown.now c.args.uses.now n c.args.out.now.items c.loop-found.out.items) e c.loop-found.invariant.exact
+    subst (λ (n : ℕ). GrownBy c.args.frame.now.design.now (g.R.Reads.value c.args.reads.now) c.args.name c.args.frame.now.cell c.args.frame.now.key c.args.frame.now.grown c.args.uses.now n c.args.out.now.items c.loop-found.out.items) e c.loop-found.invariant.exact
 
 pub returns-then-is_last-clause-exact : goal.returns-then-is_last-clause-exact
 returns-then-is_last-clause-exact g c =
-    full_all c.args.design.now (g.R.Reads.value c.args.reads.now) c.args.name c.args.cell c.args.key c.args.grown.now c.args.uses.now c.loop-found.found-index c.args.out.now.items c.loop-found.out.items
+    full_all c.args.frame.now.design.now (g.R.Reads.value c.args.reads.now) c.args.name c.args.frame.now.cell c.args.frame.now.key c.args.frame.now.grown c.args.uses.now c.loop-found.found-index c.args.out.now.items c.loop-found.out.items
     c.loop-found.invariant.exact (λ q h. subst (λ (rs : List Rect). covers rs q ≡ true) c.deref.ensures.value (c.if-is_last.ensures refl q h))

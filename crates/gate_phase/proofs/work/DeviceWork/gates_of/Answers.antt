@@ -2,9 +2,13 @@ use Rattle.std.proofs.Common.{◌≡◌, ◌∙◌, List, Option, ap, sym, subst
 use Rattle.std.specs.Borrow.{Bor}
 use Rattle.cell_graph.specs.Linked.{Linked, plain}
 use Rattle.deep_tables.specs.Nets.{AreRightNets}
+use Rattle.deep_tables.specs.Zones.{AreZones}
 use Rattle.deep_tables.specs.declared.nets.CellNets.{CellNets}
+use Rattle.flat_layout.specs.Layout.{IsReached}
+use Rattle.gate_phase.proofs.Locals.{reached_cell}
 use Rattle.gate_phase.proofs.Results.{if_ok}
 use Rattle.gate_phase.proofs.work.DeviceWork.gates_of.Goals as goal
+use Rattle.gate_phase.specs.Indexes.{AreLayersOf}
 use Rattle.gate_phase.specs.Judged.{GoOn, rule_grounds}
 use Rattle.gate_phase.specs.Work.{WorkOf}
 use Rattle.net_phase.specs.Below.{BelowSeen, tables_seen, wiring_seen}
@@ -12,7 +16,23 @@ use Rattle.net_phase.specs.Reading.{nets_of}
 use Rattle.net_phase.specs.Wired.{with_nets}
 use Rattle.rule_layers.specs.Meaning.{wiring_of}
 use Rattle.rule_text.specs.Seen.{rules_seen}
+use Rattle.rule_text.specs.Sound.{IsSound}
 use Rattle.rule_text.specs.declared.rules.RuleSet.{RuleSet}
+
+pub cell_gates-requires-clause-ready : goal.cell_gates-requires-clause-ready
+cell_gates-requires-clause-ready c =
+    let a = c.self.inside in
+    let design = c.design-design.ensures ∙ ap (λ (z : WorkOf). z.design) c.self.view_is in
+    let reached = subst (λ (x : Linked). IsReached (plain x) c.args.cell) (sym design) c.requires.reached in
+    record {
+      rules = subst (λ (x : RuleSet). IsSound (rules_seen x)) (sym c.rules-rules.ensures) c.sound.ensures.rules;
+      known = reached_cell c.design-design.result.now c.args.cell c.sound-2.ensures reached;
+      zones = subst (λ (x : Linked). AreZones (plain x) (rules_seen c.rules-rules.result.now) a.zones.now) (sym c.design-design.ensures)
+          (subst (λ (x : RuleSet). AreZones (plain a.wired.now.design) (rules_seen x) a.zones.now) (sym c.rules-rules.ensures) c.self.invariant.zones);
+      layers = subst (λ (x : Linked). AreLayersOf (plain x) (rules_seen c.rules-rules.result.now) a.layers) (sym c.design-design.ensures)
+          (subst (λ (x : RuleSet). AreLayersOf (plain a.wired.now.design) (rules_seen x) a.layers) (sym c.rules-rules.ensures) c.self.invariant.layers);
+      reached = reached;
+    }
 
 pub cell_gates-requires-clause-design : goal.cell_gates-requires-clause-design
 cell_gates-requires-clause-design c = ap (λ (z : BelowSeen). plain z.design) c.below-cells.ensures ∙ ap (λ (x : Linked). plain x) (sym c.design-design.ensures)

@@ -1,4 +1,4 @@
-use Rattle.std.proofs.Common.{◌≡◌, ◌<◌, ◌-◌, ◌∙◌, ℕ, List, Some, IsSomeAnd, ap, sym, subst, length, slice_get, slice_index}
+use Rattle.std.proofs.Common.{◌≡◌, ◌<◌, ◌-◌, ◌∙◌, ℕ, List, Some, IsSomeAnd, ap, rules, sym, subst, length, slice_get, slice_index}
 use Rattle.std.specs.List.{All}
 use Rattle.geo_base.specs.declared.shapes.Rect.{Rect}
 use Rattle.job_graph.specs.Graph.{Waits}
@@ -22,14 +22,18 @@ use Rattle.zone_phase.proofs.Putting.{listed}
 use Rattle.zone_phase.proofs.Working.{cell_zones, entry_of, some_more, uses_at, waited}
 use Rattle.zone_phase.proofs.phase.ZonePhasePhase.work.Goals as goal
 
-pub name_zones-requires-clause-uses : goal.name_zones-requires-clause-uses
-name_zones-requires-clause-uses g c =
+pub name_zones-requires-clause-used : goal.name_zones-requires-clause-used
+name_zones-requires-clause-used g c =
     let d = c.self.inside.design.now in let a = c.self.invariant in
     let lt : c.args.job < length c.order-order.result.now =
     subst (λ n. c.args.job < n) (ap (λ (z : ZoneJobs). length z.graph) (sym c.self.view_is) ∙ a.graph.jobs ∙ ap length (sym c.order-order.ensures)) c.requires.job in
     let same = listed d c.self.inside.uses.items c.order-order.result.now c.args.job c.index-uses.result.now c.deref.result.now c.sound.ensures a.uses.count c.order-order.ensures lt c.index-uses.ensures c.deref.ensures.value in
     let cell = ap (λ (o : List ℕ). slice_index o (length o - 1 - c.args.job)) c.order-order.ensures in
-    subst (λ n. AreUsesOf d n c.deref.result.now) (sym cell) (subst (AreUsesOf d (downward_cell d c.args.job)) (sym same) (uses_at d (lists_of c.self.inside.uses.items) (downward_cell d c.args.job) c.sound.ensures a.uses))
+    record {
+      cell = search rules;
+      uses = subst (λ n. AreUsesOf d n c.deref.result.now) (sym cell) (subst (AreUsesOf d (downward_cell d c.args.job)) (sym same) (uses_at d (lists_of c.self.inside.uses.items) (downward_cell d c.args.job) c.sound.ensures a.uses));
+      margin = a.most;
+    }
 
 pub name_zones-requires-clause-may : goal.name_zones-requires-clause-may
 name_zones-requires-clause-may g c = λ k u at.

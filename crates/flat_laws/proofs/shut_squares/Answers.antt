@@ -1,0 +1,5 @@
+use Rattle.flat_laws.proofs.Shut.{shut_laws}
+use Rattle.flat_laws.proofs.shut_squares.Goals as goal
+
+pub returns : goal.returns
+returns c = shut_laws

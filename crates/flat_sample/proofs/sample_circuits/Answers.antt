@@ -1,8 +1,0 @@
-use Rattle.std.proofs.Common.{refl}
-use Rattle.flat_laws.proofs.Flat.{flat_netlist}
-use Rattle.flat_sample.proofs.Drawn.{all_right}
-use Rattle.flat_sample.specs.Sample.{sample_design, sample_wiring, sample_tables, small_circuits, sample_netlist, sample_rules, sample_level}
-use Rattle.flat_sample.proofs.sample_circuits.Goals as goal
-
-pub returns : goal.returns
-returns c = record { right = all_right; netlist = flat_netlist sample_design sample_wiring sample_tables small_circuits sample_netlist sample_rules 1000 sample_level all_right 0 refl }

@@ -1,4 +1,0 @@
-pub mod Sample
-pub mod Transistors
-pub mod Expansion
-pub mod Refused

@@ -1,0 +1,9 @@
+pub mod Latch
+pub mod Chain
+pub mod Faulty
+pub mod Sample
+pub mod Transistors
+pub mod Expansion
+pub mod Refused
+pub mod Matched
+pub mod Combined

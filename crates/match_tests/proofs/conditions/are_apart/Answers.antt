@@ -1,9 +1,0 @@
-use Rattle.match_tests.proofs.Tested.{few_lefts, few_rights}
-use Rattle.std.proofs.Common.{rules}
-use Rattle.match_tests.proofs.conditions.are_apart.Goals as goal
-
-pub returns-clause-left : goal.returns-clause-left
-returns-clause-left c e = few_lefts c.args.same.now (search rules)
-
-pub returns-clause-right : goal.returns-clause-right
-returns-clause-right c e = few_rights c.args.same.now (search rules)

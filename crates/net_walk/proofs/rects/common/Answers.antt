@@ -1,7 +1,0 @@
-use Rattle.std.proofs.Common.{arith}
-use Rattle.std.proofs.lemmas.Int.{ints, clamps}
-use Rattle.geo_base.proofs.Spans.{same_rect}
-use Rattle.net_walk.proofs.rects.common.Goals as goal
-
-pub returns : goal.returns
-returns c = same_rect _ _ (omega (arith, ints, clamps)) (omega (arith, ints, clamps)) (omega (arith, ints, clamps)) (omega (arith, ints, clamps))

@@ -1,4 +1,0 @@
-mod Marking
-mod Walking
-mod Plans
-mod Rows

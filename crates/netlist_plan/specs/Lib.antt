@@ -1,5 +1,0 @@
-pub mod Defined
-pub mod Circuits
-pub mod Seen
-pub mod Marks
-pub mod Work

@@ -1,0 +1,98 @@
+//! All that is told of changes.
+
+ghost use Rattle.std.specs.Prelude.{◌≡◌, ◌++◌, OnOk, IfOk, codes, map};
+ghost use Rattle.std.specs.Fmt.{decimal};
+ghost use Rattle.netlist_turn.specs.Seen.{told_seen};
+ghost use Rattle.netlist_run.specs.SumsSeen.{seen};
+ghost use Rattle.netlist_run.specs.Sums.{counts_text, names_text, title_text, told_text};
+
+use crate::place::{push_number, push_place};
+use crate::sums::{Sums, sums_of};
+use crate::tally::{push_count, push_tally};
+use netlist_join::{File, Origin};
+use netlist_turn::Told;
+use std::alloc::{AllocError, Global};
+
+fn push_title(
+    alloc: Global,
+    out: &mut Vec<u8>,
+    has_title: bool,
+    files: &[File],
+) -> Result<(), AllocError>
+    ensures { OnOk result (out.new.items ≡ out.old.items ++ title_text has_title files.now) }
+{
+    if !has_title {
+        return Ok(());
+    }
+    out.extend_from_slice(b"left out ")?;
+    push_place(alloc, out, files, Origin { file: 0, line: 1 })?;
+    out.extend_from_slice(b"title\n")
+}
+
+fn push_counts(
+    alloc: Global,
+    out: &mut Vec<u8>,
+    comments: u64,
+    sums: &Sums,
+) -> Result<(), AllocError>
+    ensures { OnOk result (out.new.items ≡ out.old.items ++ counts_text comments (seen sums.now)) }
+{
+    push_count(alloc, out, b"comments", comments)?;
+    push_count(alloc, out, b"slashes", sums.slashes)?;
+    push_count(alloc, out, b"PARAMS:", sums.params)?;
+    push_count(alloc, out, b"quotes", sums.quotes)?;
+    push_count(alloc, out, b"backslashes", sums.names)
+}
+
+fn push_written(alloc: Global, out: &mut Vec<u8>, cards: usize) -> Result<(), AllocError>
+    ensures { OnOk result (out.new.items ≡ out.old.items ++ (codes "written "
+        ++ (decimal cards ++ codes " cards\n"))) }
+{
+    out.extend_from_slice(b"written ")?;
+    push_number(alloc, out, cards as u64)?;
+    out.extend_from_slice(b" cards\n")
+}
+
+// The lines of counts, behind those of names.
+fn push_sums(
+    alloc: Global,
+    out: &mut Vec<u8>,
+    comments: u64,
+    sums: Sums,
+    cards: usize,
+) -> Result<(), AllocError>
+    ensures { OnOk result (out.new.items ≡ out.old.items ++ (names_text (seen sums)
+        ++ (counts_text comments (seen sums) ++ (codes "written " ++ (decimal cards ++ codes " cards\n"))))) }
+{
+    let mut counted = Vec::new(alloc);
+    push_counts(alloc, &mut counted, comments, &sums)?;
+    push_tally(alloc, out, b"parameter", sums.parameters)?;
+    push_tally(alloc, out, b"value", sums.values)?;
+    out.extend_from_slice(counted.as_slice())?;
+    push_written(alloc, out, cards)
+}
+
+/// All that is told of these changes, of so many comments and of so many written cards: `left out PATH line L title`,
+/// where there is a title; `left out PATH line L WORD` for each card that is left out; then, where
+/// there are any, `parameter NAME N` for each name of parameters that are left out, `value NAME N`
+/// for each name whose value was put in, `comments N`, `slashes N`, `PARAMS: N`, `quotes N` and
+/// `backslashes N`; and `written N cards`. Linear in the changes.
+pub fn told_lines(
+    alloc: Global,
+    has_title: bool,
+    files: &[File],
+    origins: &[Origin],
+    comments: u64,
+    told: &[Told],
+    cards: usize,
+) -> Result<Vec<u8>, AllocError>
+    ensures { IfOk result (λ text. text.items
+        ≡ told_text has_title files.now origins.now comments (map told_seen told.now) cards) }
+{
+    let sums = sums_of(alloc, files, origins, told)?;
+    let mut out = Vec::new(alloc);
+    push_title(alloc, &mut out, has_title, files)?;
+    out.extend_from_slice(sums.cards.as_slice())?;
+    push_sums(alloc, &mut out, comments, sums, cards)?;
+    Ok(out)
+}

@@ -1,3 +1,0 @@
-pub mod Extracted
-pub mod Once
-pub mod Spelled

@@ -1,9 +1,0 @@
-//! What the circuits of a layout show of its nets, for whoever looks at them circuit by circuit.
-#![tactic(auto)]
-
-ghost use Rattle.view_laws.specs.Shown.{ReadLaw};
-
-/// What the circuits show of a net, each in its own cell, is over all calls what the net holds.
-pub fn read_law()
-    ensures { ReadLaw }
-{}
