@@ -5,7 +5,7 @@ import struct
 import tools
 
 DOCUMENT = "docs/FROM_KLAYOUT.md"
-RINGS = os.path.join(tools.TOP, "crates", "lvs_main", "data")
+RINGS = os.path.join(tools.TOP, "crates", "lvs_rows", "data", "files")
 
 
 def points(x1, y1, x2, y2):
