@@ -3,3 +3,4 @@ pub mod Alike
 pub mod Going
 pub mod Joined
 pub mod Parted
+pub mod Few

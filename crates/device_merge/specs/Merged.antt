@@ -14,10 +14,15 @@ use Rattle.device_merge.specs.declared.fault.MergeFault.TheVariants.{NoMemory, T
 
 -- the circuit with each group of alike transistors as one, or none where one of them is wider than
 -- this
-abbrev pub IsMergedCircuit : ℕ → Circuit → Option Held → Type 0
-IsMergedCircuit most c None = are_wider most (groups c.devices) ≡ true
-IsMergedCircuit most c (Some m) =
+abbrev pub IsCircuitMergedBy : ℕ → Circuit → Option Held → Type 0
+IsCircuitMergedBy most c None = are_wider most (groups c.devices) ≡ true
+IsCircuitMergedBy most c (Some m) =
     (plain_circuit m ≡ merged_circuit c) × (are_wider most (groups c.devices) ≡ false)
+
+-- the circuit with each group of alike transistors as one, or none where one of them is too wide
+abbrev pub IsMergedCircuit : Circuit → Option Held → Type 0
+IsMergedCircuit c None = is_too_wide c ≡ true
+IsMergedCircuit c (Some m) = (plain_circuit m ≡ merged_circuit c) × (is_too_wide c ≡ false)
 
 -- the first circuit that has one too wide; or want of memory
 abbrev pub IsMergeFault : Netlist → MergeFault → Type 0

@@ -8,8 +8,8 @@ ghost use Rattle.net_model.specs.Tests.{first_of};
 ghost use Rattle.plain_netlist.specs.Netlist.{DeviceRow};
 ghost use Rattle.plain_netlist.specs.Normal.{IsNormalNetlist};
 ghost use Rattle.plain_netlist.specs.Sound.{IsSoundNetlist};
-ghost use Rattle.device_merge.specs.Merged.{AreAllUnlike, AreMergedAlike, IsMergeFault};
-ghost use Rattle.device_merge.specs.Merged.{IsMergedCircuit, IsNarrow};
+ghost use Rattle.device_merge.specs.Merged.{AreAllUnlike, AreMergedAlike, IsCircuitMergedBy};
+ghost use Rattle.device_merge.specs.Merged.{IsMergeFault, IsMergedCircuit, IsNarrow};
 
 use crate::fault::MergeFault;
 use crate::groups::{WIDEST, merge_up_to};
@@ -33,8 +33,8 @@ fn copy_calls(alloc: Global, calls: &[CallRow]) -> Result<Vec<CallRow>, AllocErr
 
 // The circuit with each group of alike transistors as one; none where one of them is wider than
 // this, in femtometres.
-fn merge_circuit(alloc: Global, c: &Circuit, most: u128) -> Result<Option<Circuit>, AllocError>
-    ensures { IfOk result (IsMergedCircuit most (plain_circuit c.now)) }
+fn circuit_up_to(alloc: Global, c: &Circuit, most: u128) -> Result<Option<Circuit>, AllocError>
+    ensures { IfOk result (IsCircuitMergedBy most (plain_circuit c.now)) }
 {
     let Some(devices) = merge_up_to(alloc, &c.devices, most)? else {
         return Ok(None);
@@ -46,6 +46,13 @@ fn merge_circuit(alloc: Global, c: &Circuit, most: u128) -> Result<Option<Circui
         devices,
         calls: copy_calls(alloc, &c.calls)?,
     }))
+}
+
+// The circuit with each group of alike transistors as one; none where one of them is too wide.
+fn merge_circuit(alloc: Global, c: &Circuit) -> Result<Option<Circuit>, AllocError>
+    ensures { IfOk result (IsMergedCircuit (plain_circuit c.now)) }
+{
+    circuit_up_to(alloc, c, WIDEST)
 }
 
 fn add(circuits: &mut Vec<Circuit>, c: Circuit) -> Result<(), AllocError>
@@ -68,7 +75,7 @@ fn merge_circuits(alloc: Global, n: &Netlist) -> Result<Vec<Circuit>, MergeFault
     let mut count = 0;
     let mut rest = n.circuits.as_slice();
     'circuits: while let [circuit, more @ ..] = rest {
-        match merge_circuit(alloc, circuit, WIDEST)? {
+        match merge_circuit(alloc, circuit)? {
             Some(merged) => add(&mut circuits, merged)?,
             None => return Err(MergeFault::TooWide(count)),
         }
@@ -112,7 +119,7 @@ fn merge_narrow(alloc: Global, c: &Circuit) -> Result<Circuit, AllocError>
     ensures { IfOk result (λ m. plain_circuit m ≡ merged_circuit (plain_circuit c.now)) }
 {
     number(c.devices.len())?;
-    let Some(merged) = merge_circuit(alloc, c, u128::MAX)? else {
+    let Some(merged) = circuit_up_to(alloc, c, u128::MAX)? else {
         unreachable!()
     };
     Ok(merged)

@@ -78,3 +78,34 @@ all_so_far answers n verdict.Undecided e h = (
   (λ some. let lt = some.2 in h.0 some.0 (omega (arith, e, lt)) (subst IsDifference (sym (get_or_default answers some.0 (Skipped some.0) some.1 some.2 ∙ some.3)) some.4)),
   (λ all. let below = h.1.1 in h.1.2 (all h.1.0 (Skipped h.1.0) (omega (arith, e, below)))),
 )
+
+difference_is : (a : Answer) → is_difference a ≡ true → IsDifference a
+difference_is (DiffersInRound r a m n) e = tt
+difference_is (DiffersByTree gs) e = tt
+difference_is (Match f) e = cc
+difference_is (Undecided gs) e = cc
+difference_is (Skipped q) e = cc
+
+is_one : (a : Answer) → IsDifference a → is_difference a ≡ true
+is_one (DiffersInRound r a m n) h = refl
+is_one (DiffersByTree gs) h = refl
+is_one (Match f) h = absurd h
+is_one (Undecided gs) h = absurd h
+is_one (Skipped q) h = absurd h
+
+match_isnt : (a : Answer) → IsMatch a → is_difference a ≡ false
+match_isnt (Match f) h = refl
+match_isnt (DiffersInRound r a m n) h = absurd h
+match_isnt (DiffersByTree gs) h = absurd h
+match_isnt (Undecided gs) h = absurd h
+match_isnt (Skipped q) h = absurd h
+
+-- a mismatch is that a pair differs
+pub differs_where : (answers : List Answer) (v : Verdict) → IsVerdict answers v → is_mismatch v ≡ list_any is_difference answers
+differs_where answers verdict.Match h = sym (list_any_none is_difference answers (All_map (λ a m. match_isnt a m) h))
+differs_where answers verdict.Mismatch h = sym (list_any-from_Any is_difference answers (let (k, a, low, at, d) = h in (k, a, low, at, is_one a d)))
+differs_where answers verdict.Undecided h = go (list_any is_difference answers) refl
+  where
+    go : (b : Bool) → list_any is_difference answers ≡ b → false ≡ list_any is_difference answers
+    go false e = sym e
+    go true e = absurd (h.0 (let (k, a, low, at, d) = Any-from_list_any is_difference answers e in (k, a, low, at, difference_is a d)))
