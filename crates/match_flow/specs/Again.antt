@@ -4,8 +4,7 @@ use Rattle.std.specs.List.{list_any}
 use Rattle.match_laws.specs.Answer.{Answer}
 use Rattle.match_types.specs.Answered.{asked_of}
 use Rattle.merge_laws.specs.Grouped.{merged_netlist}
-use Rattle.pair_jobs.specs.Answers.{AreAllAnswers}
-use Rattle.pair_turns.specs.Going.{is_difference}
+use Rattle.pair_jobs.specs.Answers.{AreAllAnswers, is_difference}
 use Rattle.plain_netlist.specs.Netlist.{Netlist}
 
 -- a netlist of a comparison as its pairs are answered: where they are answered again, each group of

@@ -11,7 +11,8 @@ use Rattle.pair_jobs.specs.Answers.{IsMatch}
 use Rattle.pair_jobs.specs.Verdict.{IsRunVerdict}
 use Rattle.pair_jobs.specs.declared.verdict.Verdict.TheVariants as verdict
 use Rattle.pair_turns.specs.Alone.{Names}
-use Rattle.pair_turns.specs.Going.{goes_from, is_difference, takes_apart}
+use Rattle.pair_jobs.specs.Answers.{is_difference}
+use Rattle.pair_turns.specs.Going.{goes_from, takes_apart}
 use Rattle.plain_netlist.specs.Netlist.{Circuit, Netlist}
 use Rattle.report_file.specs.File.{all_answers}
 use Rattle.report_file.specs.Helps.{SameMatchLaw, flattening}
