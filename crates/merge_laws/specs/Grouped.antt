@@ -10,7 +10,7 @@ use Rattle.plain_netlist.specs.Flats.{Corresponds, expanded}
 use Rattle.plain_netlist.specs.FlatLaws.{ExpandAlike, Passes}
 use Rattle.plain_netlist.specs.Lists.{IsListed}
 use Rattle.plain_netlist.specs.Normal.{IsNormalNetlist}
-use Rattle.plain_netlist.specs.Sound.{IsSoundNetlist}
+use Rattle.plain_netlist.specs.Sound.{IsGood, IsSoundNetlist}
 use Rattle.merge_laws.specs.Merge.{may_merge_row, with_added, width_of, with_width, AreAlike}
 use Rattle.merge_laws.specs.Merge.{merged}
 
@@ -119,6 +119,11 @@ UnlikeLaw = (nl : Netlist) (t : ℕ) (c : Circuit) → IsCircuit (merged_netlist
 -- a sound netlist stays sound
 abbrev pub SoundMergedLaw : Type 0
 SoundMergedLaw = (nl : Netlist) → IsSoundNetlist nl → IsSoundNetlist (merged_netlist nl)
+
+-- a good netlist stays good, with its heights
+abbrev pub GoodMergedLaw : Type 0
+GoodMergedLaw = (nl : Netlist) (height : ℕ → ℕ) → IsGood nl height
+    → IsGood (merged_netlist nl) height
 
 -- a netlist in normal form stays so
 abbrev pub NormalMergedLaw : Type 0

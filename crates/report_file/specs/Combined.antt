@@ -1,6 +1,7 @@
 -- What is compared by rules that combine devices: netlists in whose circuits each group of alike
 -- transistors is one.
-use Rattle.std.specs.Prelude.{ℕ, List, Option, None, cond, slice_get}
+use Rattle.std.specs.Prelude.{ℕ, Bool, ◌==◌, ◌&&◌, ◌||◌, not, List, length, Option, None, cond}
+use Rattle.std.specs.Prelude.{slice_get}
 use Rattle.std.specs.Option.{option_map}
 use Rattle.match_report.specs.Pairs.{name_of}
 use Rattle.merge_laws.specs.Grouped.{is_too_wide, merged_netlist}
@@ -12,6 +13,16 @@ use Rattle.rule_text.specs.Rules.{Rules}
 -- a netlist as it is compared
 abbrev pub compared_of : Rules → Netlist → Netlist
 compared_of r nl = cond r.combine (merged_netlist nl) nl
+
+-- the rules flatten circuits: those without partner by lines, or those that differ
+abbrev pub flattens : Rules → Bool
+flattens r = r.flattens_unmatched
+    || not (length r.flat_layouts == 0 && length r.flat_schematics == 0)
+
+-- then alike transistors that come to stand in one circuit are made one once more, where pairs
+-- differ
+abbrev pub merges_again : Rules → Bool
+merges_again r = r.combine && flattens r
 
 -- the name of the first circuit with a group of alike transistors that is too wide for one
 abbrev pub first_wide : Netlist → Option (List ℕ)
