@@ -1,5 +1,6 @@
 //! The comparison of a layout's netlist with a schematic.
-ghost use Rattle.std.specs.Prelude.{◌≡◌, ◌↔◌, ◌<◌, IfOk, IfSome, IsNone, length, map, true};
+ghost use Rattle.std.specs.Prelude.{◌≡◌, ◌&&◌, ◌↔◌, ◌<◌, IfOk, IfSome, IsNone, length, map, true};
+ghost use Rattle.std.specs.List.{list_any};
 ghost use Rattle.device_merge.specs.Merged.{IsNarrow};
 ghost use Rattle.match_flow.specs.Again.{IsAnswered};
 ghost use Rattle.match_types.specs.Plain.{plain_answer};
@@ -9,7 +10,7 @@ ghost use Rattle.net_align.specs.Compared.{AreAligned, AreCalleesFirst, AreCompa
 ghost use Rattle.net_align.specs.Compared.{HasNoPartner, IsAlignable};
 ghost use Rattle.net_align.specs.Names.{left_names, right_names};
 ghost use Rattle.net_model.specs.Rows.{plain_netlist};
-ghost use Rattle.pair_jobs.specs.Answers.{AreAllAnswers};
+ghost use Rattle.pair_jobs.specs.Answers.{AreAllAnswers, is_difference};
 ghost use Rattle.plain_netlist.specs.Lists.{AreApart};
 
 use crate::phase::PairPhase;
@@ -83,6 +84,17 @@ fn answer_merged<R: Threads + Wait + Sync, G: Gate + Sync>(
     answer_pairs(alloc, &near, &far, settings, crew)
 }
 
+// Whether a pair differs and the settings say that all are then answered again.
+fn asks_again(settings: &Settings<'_>, first: &Results<Answer>) -> Result<bool, AllocError>
+    ensures { IfOk result (λ asked. asked ≡ (settings.now.merges_again
+        && list_any is_difference (map plain_answer first.now))) }
+{
+    if !settings.merges_again {
+        return Ok(false);
+    }
+    some_differs(first)
+}
+
 // The answers of all pairs, and whether they are of circuits merged once more.
 #[derive(Drop)]
 struct Answered {
@@ -107,7 +119,7 @@ fn answer<R: Threads + Wait + Sync, G: Gate + Sync>(
         (map plain_answer a.answers)) }
 {
     let first = answer_pairs(alloc, left, right, settings, crew)?;
-    if !settings.merges_again || !some_differs(&first)? {
+    if !asks_again(settings, &first)? {
         return Ok(Answered {
             merged_again: false,
             answers: first,
