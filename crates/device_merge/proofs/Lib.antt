@@ -4,3 +4,4 @@ pub mod Going
 pub mod Joined
 pub mod Parted
 pub mod Few
+pub mod Alone

@@ -1,5 +1,6 @@
 -- What merging a circuit and a netlist answer.
-use Rattle.std.specs.Prelude.{◌≡◌, ℕ, true, false, Option, Some, None}
+use Rattle.std.specs.Prelude.{◌≡◌, ℕ, Bool, true, false, Option, Some, None, length, nat_lt}
+use Rattle.std.specs.List.{list_any}
 use Rattle.plain_netlist.specs.Flats.{Corresponds, expanded}
 use Rattle.plain_netlist.specs.Netlist.{Circuit, DeviceRow, Netlist, IsCircuit, IsDevice}
 use Rattle.merge_laws.specs.Grouped.{AreUnlike, IsMadeOf, groups, is_too_wide, is_wide}
@@ -32,6 +33,14 @@ IsMergeFault nl NoMemory = Unit {0}
 -- no device that may become one with others is wider than 10^27 femtometres
 abbrev pub IsNarrow : Netlist → Type 0
 IsNarrow nl = (t i : ℕ) (row : DeviceRow) → IsDevice nl t i row → is_wide row ≡ false
+
+-- merging makes the circuit's devices fewer: some are alike
+abbrev pub is_shorter : Circuit → Bool
+is_shorter c = nat_lt (length (groups c.devices)) (length c.devices)
+
+-- so for one of the circuits; where it isn't, the merged netlist is the given one
+abbrev pub has_alike : Netlist → Bool
+has_alike nl = list_any is_shorter nl.circuits
 
 -- no circuit has two alike transistors
 abbrev pub AreAllUnlike : Netlist → Type 0

@@ -10,6 +10,7 @@ ghost use Rattle.plain_netlist.specs.Normal.{IsNormalNetlist};
 ghost use Rattle.plain_netlist.specs.Sound.{IsSoundNetlist};
 ghost use Rattle.device_merge.specs.Merged.{AreAllUnlike, AreMergedAlike, IsCircuitMergedBy};
 ghost use Rattle.device_merge.specs.Merged.{IsMergeFault, IsMergedCircuit, IsNarrow};
+ghost use Rattle.device_merge.specs.Merged.{has_alike, is_shorter};
 
 use crate::fault::MergeFault;
 use crate::groups::{WIDEST, merge_up_to};
@@ -125,20 +126,43 @@ fn merge_narrow(alloc: Global, c: &Circuit) -> Result<Circuit, AllocError>
     Ok(merged)
 }
 
+// Whether a merged circuit has less devices than the one that it was made of.
+fn is_shorter(merged: &Circuit, c: &Circuit) -> bool
+    requires { plain_circuit merged.now ≡ merged_circuit (plain_circuit c.now) }
+    ensures { result ≡ is_shorter (plain_circuit c.now) }
+{
+    merged.devices.len() < c.devices.len()
+}
+
+/// A netlist merged once more, and whether that is another one: whether some transistors of a
+/// circuit were alike.
+#[derive(Drop)]
+pub struct MergedAgain {
+    pub netlist: Netlist,
+    pub had_alike: bool,
+}
+
 /// A netlist without too wide devices, with each group of alike transistors of a circuit as one, as
 /// in `merge`. It may have wider ones than `merge` leaves, and is never refused for that: less than
 /// 2^32 devices of at most 10^27 femtometres are less than 2^128 wide. Linear. An `Err` is want of
 /// memory, or 2^32 devices or more in a circuit.
-pub fn merge_again(alloc: Global, n: &Netlist) -> Result<Netlist, AllocError>
+pub fn merge_again(alloc: Global, n: &Netlist) -> Result<MergedAgain, AllocError>
     requires { IsNarrow (plain_netlist n.now) }
-    ensures { IfOk result (λ m. plain_netlist m ≡ merged_netlist (plain_netlist n.now)) }
+    ensures merged { IfOk result (λ m. plain_netlist m.netlist
+        ≡ merged_netlist (plain_netlist n.now)) }
+    ensures alike { IfOk result (λ m. m.had_alike ≡ has_alike (plain_netlist n.now)) }
 {
     let mut circuits = Vec::new(alloc);
+    let mut had_alike = false;
     let mut rest = n.circuits.as_slice();
     'circuits: while let [circuit, more @ ..] = rest {
         let merged = merge_narrow(alloc, circuit)?;
+        had_alike = had_alike || is_shorter(&merged, circuit);
         add(&mut circuits, merged)?;
         rest = more;
     }
-    Ok(Netlist { circuits })
+    Ok(MergedAgain {
+        netlist: Netlist { circuits },
+        had_alike,
+    })
 }

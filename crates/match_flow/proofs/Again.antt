@@ -1,6 +1,11 @@
 -- Sides whose circuits are merged once more can be compared as before.
-use Rattle.std.proofs.Common.{◌≡◌, ◌≢◌, ◌⊎◌, inl, inr, ◌+◌, ◌==◌, ◌&&◌, ℕ, Bool, List, length, map, Some, slice_get, refl, sym, ap, subst, ◌∙◌}
+use Rattle.std.proofs.Common.{◌≡◌, ◌≢◌, ◌⊎◌, inl, inr, ◌+◌, ◌==◌, ◌&&◌, ◌||◌, ℕ, Bool, true, false, true≢false, ap₂, List, length, map, Some, slice_get, refl, sym, ap, subst, ◌∙◌}
 use Rattle.base_laws.proofs.Lists.{map_count}
+use Rattle.device_merge.proofs.Alone.{unmerged}
+use Rattle.device_merge.specs.Merged.{has_alike}
+use Rattle.std.proofs.lemmas.Bool.{or_parts}
+use Rattle.std.specs.List.{list_any}
+use Rattle.match_flow.specs.Again.{IsAnswered, as_answered}
 use Rattle.composed_laws.specs.Answered.{Asked}
 use Rattle.match_laws.specs.Answer.{Answer}
 use Rattle.match_types.specs.Answered.{asked_of}
@@ -9,7 +14,7 @@ use Rattle.merge_laws.proofs.Nets.{call_back, circuit_back, circuit_there}
 use Rattle.merge_laws.proofs.Sides.{merged_sides}
 use Rattle.merge_laws.specs.Grouped.{merged_circuit, merged_netlist}
 use Rattle.net_align.specs.Compared.{AreComparable, HasTwinsAtMost}
-use Rattle.pair_jobs.specs.Answers.{AreAllAnswers}
+use Rattle.pair_jobs.specs.Answers.{AreAllAnswers, is_difference}
 use Rattle.plain_netlist.proofs.Heights.{no_fault_in_good}
 use Rattle.plain_netlist.specs.Netlist.{Circuit, Netlist}
 use Rattle.plain_netlist.specs.Sound.{BadTerminal, CircuitCycle, HasNameBefore, HasNetTwins, IsGood, NameClash, NetlistFault, NoSuchCircuit, PinCount, ShowsFault}
@@ -73,3 +78,19 @@ answered_again left right near far limit same_pins answers l r h =
 pub comparable_as : (left right near far : Netlist) → near ≡ merged_netlist left → far ≡ merged_netlist right → AreComparable left right → AreComparable near far
 comparable_as left right near far l r h =
     subst (λ (n : Netlist). AreComparable n far) (sym l) (subst (λ (n : Netlist). AreComparable (merged_netlist left) n) (sym r) (comparable_again left right h))
+
+-- where some pair differs the answers are those of the merged netlists, whether they were merged or
+-- are the same
+pub answered_merged : (merges : Bool) (limit : ℕ) (same_pins : Bool) (left right : Netlist) (again : Bool) (answers : List Answer) → merges ≡ true
+    → (h : IsAnswered merges limit same_pins left right again answers) → list_any is_difference h.first ≡ true
+    → AreAllAnswers (merged_netlist left) (merged_netlist right) (asked_of left limit same_pins) answers
+answered_merged merges limit same_pins left right again answers set h some = go again (has_alike left || has_alike right) refl (h.again_is ∙ ap₂ (λ (a b : Bool). a && b && (has_alike left || has_alike right)) set some) h.at_last
+  where
+    go : (a b : Bool) → (has_alike left || has_alike right) ≡ b → a ≡ (has_alike left || has_alike right) → AreAllAnswers (as_answered a left) (as_answered a right) (asked_of left limit same_pins) answers
+        → AreAllAnswers (merged_netlist left) (merged_netlist right) (asked_of left limit same_pins) answers
+    go true b is e last = last
+    go false true is e last = absurd (true≢false (sym is ∙ sym e))
+    go false false is e last =
+        let none = or_parts (has_alike left) (has_alike right) is in
+        let one = subst (λ (n : Netlist). AreAllAnswers n right (asked_of left limit same_pins) answers) (sym (unmerged left none.0)) last in
+        subst (λ (n : Netlist). AreAllAnswers (merged_netlist left) n (asked_of left limit same_pins) answers) (sym (unmerged right none.1)) one
