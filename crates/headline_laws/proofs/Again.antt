@@ -4,7 +4,7 @@ use Rattle.align_laws.proofs.Kept.{aligned_corresponds}
 use Rattle.align_laws.proofs.Sides.{aligned_sides}
 use Rattle.align_laws.specs.Aligned.{IsDeviceAligned, IsNetAligned}
 use Rattle.align_laws.specs.Cut.{Alignment}
-use Rattle.align_laws.specs.Partners.{AreSides, IsAlignedPair, IsPair}
+use Rattle.align_laws.specs.Partners.{IsAlignedPair, IsPair}
 use Rattle.composed_laws.proofs.Answered.{answered}
 use Rattle.composed_laws.proofs.Pairs.{composes}
 use Rattle.composed_laws.specs.Answered.{AreAnswers, AreMatches, Asked}
@@ -15,22 +15,12 @@ use Rattle.match_laws.specs.Answer.{Answer}
 use Rattle.match_laws.specs.Circuits.{Pairing}
 use Rattle.merge_laws.proofs.Expands.{merged_expands}
 use Rattle.merge_laws.proofs.Flats.{merged_same}
-use Rattle.merge_laws.proofs.Kept.{good_merged}
-use Rattle.merge_laws.proofs.Nets.{circuit_back, circuit_there}
-use Rattle.merge_laws.specs.Grouped.{IsMadeOf, merged_circuit, merged_netlist}
+use Rattle.merge_laws.proofs.Sides.{merged_sides}
+use Rattle.merge_laws.specs.Grouped.{IsMadeOf, merged_netlist}
 use Rattle.merge_laws.specs.Merge.{merged}
 use Rattle.plain_netlist.proofs.Alike.{reversed, through}
 use Rattle.plain_netlist.specs.Flats.{Corresponds, expanded, Reversed, Through}
 use Rattle.plain_netlist.specs.Netlist.{Netlist, Slot}
-
--- the two sides of a comparison are so when merged
-pub merged_sides : (left right : Netlist) → AreSides left right → AreSides (merged_netlist left) (merged_netlist right)
-merged_sides left right s = record {
-  there = λ k c is. let o = circuit_back left k c is in let d = s.there k o.0 o.1 in (merged_circuit d.0, circuit_there right k d.0 d.1);
-  back = λ k d is. let o = circuit_back right k d is in let c = s.back k o.0 o.1 in (merged_circuit c.0, circuit_there left k c.0 c.1);
-  left_good = let g = s.left_good in (g.0, good_merged left g.0 g.1);
-  right_good = let g = s.right_good in (g.0, good_merged right g.0 g.1);
-}
 
 module _ (layout schematic : Netlist) (top right_top : ℕ) (same : List (List ℕ × List ℕ)) (left right : Netlist) (v w : Alignment) (p : IsAlignedPair layout schematic top right_top same left right v w)
     (asked : Asked) (answers : ℕ → Answer) (pairings : ℕ → Pairing) (are : AreAnswers (merged_netlist left) (merged_netlist right) asked answers) (all : AreMatches (merged_netlist left) answers pairings) where

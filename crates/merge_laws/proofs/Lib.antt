@@ -6,6 +6,7 @@ pub mod Nets
 pub mod Expands
 pub mod Kept
 pub mod Leaves
+pub mod Sides
 pub mod Roots
 pub mod Listed
 pub mod NoneLost

@@ -9,7 +9,7 @@ mod whole;
 
 ghost use Rattle.merge_laws.specs.Grouped.{AlikeLaw, AlikeBackLaw, UnlikeLaw, MergedSameLaw};
 ghost use Rattle.merge_laws.specs.Grouped.{GoodMergedLaw, MergedExpandsLaw, NormalMergedLaw};
-ghost use Rattle.merge_laws.specs.Grouped.{SoundMergedLaw};
+ghost use Rattle.merge_laws.specs.Grouped.{SidesMergedLaw, SoundMergedLaw};
 ghost use Rattle.merge_laws.specs.Leaves.{UnlikeLeafLaw};
 
 pub use whole::whole_netlists;
@@ -27,6 +27,7 @@ pub fn merging()
     ensures sound { SoundMergedLaw }
     ensures normal { NormalMergedLaw }
     ensures good { GoodMergedLaw }
+    ensures sides { SidesMergedLaw }
 {}
 
 /// What such circuits expand to is, when merged, what the given ones expand to, when merged.

@@ -1,8 +1,9 @@
 -- What is compared by rules that combine devices: netlists in whose circuits each group of alike
 -- transistors is one.
-use Rattle.std.specs.Prelude.{ℕ, Bool, ◌==◌, ◌&&◌, ◌||◌, not, List, length, Option, None, cond}
+use Rattle.std.specs.Prelude.{◌≡◌, ℕ, Bool, true, ◌==◌, ◌&&◌, ◌||◌, not, List, length, Option, None, cond}
 use Rattle.std.specs.Prelude.{slice_get}
 use Rattle.std.specs.Option.{option_map}
+use Rattle.device_merge.specs.Merged.{IsNarrow}
 use Rattle.match_report.specs.Pairs.{name_of}
 use Rattle.merge_laws.specs.Grouped.{is_too_wide, merged_netlist}
 use Rattle.net_align.specs.Compared.{AreCalleesFirst, IsAlignable}
@@ -23,6 +24,10 @@ flattens r = r.flattens_unmatched
 -- differ
 abbrev pub merges_again : Rules → Bool
 merges_again r = r.combine && flattens r
+
+-- what is made one once more may be: no device of either netlist is too wide for that
+abbrev pub AreNarrow : Rules → Netlist → Netlist → Type 0
+AreNarrow r layout schematic = merges_again r ≡ true → IsNarrow layout × IsNarrow schematic
 
 -- the name of the first circuit with a group of alike transistors that is too wide for one
 abbrev pub first_wide : Netlist → Option (List ℕ)

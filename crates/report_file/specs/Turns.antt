@@ -5,7 +5,7 @@ use Rattle.std.specs.List.{filter, list_any}
 use Rattle.std.specs.Str.{bytes_eq}
 use Rattle.match_report.specs.Apart.{apart_texts, limit_text}
 use Rattle.match_report.specs.Pairs.{name_of}
-use Rattle.match_report.specs.Report.{again_text, answers_of, lefts_of, rights_of}
+use Rattle.match_report.specs.Report.{again_line, answers_of, lefts_of, rights_of}
 use Rattle.match_report.specs.declared.report.Compared.{Compared}
 use Rattle.net_align.specs.Compared.{IsTopPartner}
 use Rattle.net_model.specs.Rows.{plain_netlist}
@@ -68,7 +68,7 @@ EndsWith r f lines =
 pub record IsTurn (r : Rules) (f : Compared) (goes : List Bool) (lines : List ℕ) : Type 0 where
   pub apart : AreTakenApart r f goes
   pub limit : IsLimit (plain_netlist f.left) (plain_netlist f.right) goes None
-  pub told : lines ≡ again_text f ++ apart_texts (lefts_of f) (rights_of f) 0 goes (answers_of f)
+  pub told : lines ≡ again_line f.merged_again ++ apart_texts (lefts_of f) (rights_of f) 0 goes (answers_of f)
 
 -- so where there is a comparison; else there are no lines
 abbrev pub EndsAfter : Rules → Option Compared → List ℕ → Type 0
