@@ -1,6 +1,7 @@
 //! The netlists that are compared.
 
-ghost use Rattle.std.specs.Prelude.{◌≡◌, IfErr, IfOk};
+ghost use Rattle.std.specs.Prelude.{◌≡◌, IfErr, IfOk, true};
+ghost use Rattle.device_merge.specs.Merged.{IsNarrow};
 ghost use Rattle.net_align.specs.Compared.{IsAlignable};
 ghost use Rattle.net_model.specs.Rows.{plain_netlist};
 ghost use Rattle.rule_text.specs.Seen.{rules_seen};
@@ -43,6 +44,8 @@ pub fn as_compared(
     requires schematic { IsAlignable (plain_netlist schematic) }
     ensures both { IfOk result (AreCompared (rules_seen rules.now) (plain_netlist layout)
         (plain_netlist schematic)) }
+    ensures narrow { IfOk result (λ b. rules.now.combine ≡ true
+        → IsNarrow (plain_netlist b.layout) × IsNarrow (plain_netlist b.schematic)) }
     ensures refused { IfErr result (λ why. NotCompared (rules_seen rules.now)
         (plain_netlist layout) (plain_netlist schematic) (stopped why)) }
 {
