@@ -1,5 +1,6 @@
 -- What merging a circuit and a netlist answer.
-use Rattle.std.specs.Prelude.{◌≡◌, ℕ, true, false, Option, Some, None}
+use Rattle.std.specs.Prelude.{◌≡◌, ℕ, Bool, true, false, Option, Some, None, length, nat_lt}
+use Rattle.std.specs.List.{list_any}
 use Rattle.plain_netlist.specs.Flats.{Corresponds, expanded}
 use Rattle.plain_netlist.specs.Netlist.{Circuit, DeviceRow, Netlist, IsCircuit, IsDevice}
 use Rattle.merge_laws.specs.Grouped.{AreUnlike, IsMadeOf, groups, is_too_wide, is_wide}
@@ -14,10 +15,15 @@ use Rattle.device_merge.specs.declared.fault.MergeFault.TheVariants.{NoMemory, T
 
 -- the circuit with each group of alike transistors as one, or none where one of them is wider than
 -- this
-abbrev pub IsMergedCircuit : ℕ → Circuit → Option Held → Type 0
-IsMergedCircuit most c None = are_wider most (groups c.devices) ≡ true
-IsMergedCircuit most c (Some m) =
+abbrev pub IsCircuitMergedBy : ℕ → Circuit → Option Held → Type 0
+IsCircuitMergedBy most c None = are_wider most (groups c.devices) ≡ true
+IsCircuitMergedBy most c (Some m) =
     (plain_circuit m ≡ merged_circuit c) × (are_wider most (groups c.devices) ≡ false)
+
+-- the circuit with each group of alike transistors as one, or none where one of them is too wide
+abbrev pub IsMergedCircuit : Circuit → Option Held → Type 0
+IsMergedCircuit c None = is_too_wide c ≡ true
+IsMergedCircuit c (Some m) = (plain_circuit m ≡ merged_circuit c) × (is_too_wide c ≡ false)
 
 -- the first circuit that has one too wide; or want of memory
 abbrev pub IsMergeFault : Netlist → MergeFault → Type 0
@@ -27,6 +33,14 @@ IsMergeFault nl NoMemory = Unit {0}
 -- no device that may become one with others is wider than 10^27 femtometres
 abbrev pub IsNarrow : Netlist → Type 0
 IsNarrow nl = (t i : ℕ) (row : DeviceRow) → IsDevice nl t i row → is_wide row ≡ false
+
+-- merging makes the circuit's devices fewer: some are alike
+abbrev pub is_shorter : Circuit → Bool
+is_shorter c = nat_lt (length (groups c.devices)) (length c.devices)
+
+-- so for one of the circuits; where it isn't, the merged netlist is the given one
+abbrev pub has_alike : Netlist → Bool
+has_alike nl = list_any is_shorter nl.circuits
 
 -- no circuit has two alike transistors
 abbrev pub AreAllUnlike : Netlist → Type 0

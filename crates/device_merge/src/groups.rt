@@ -1,7 +1,7 @@
 //! A circuit's devices, each group of alike ones as one.
 
 ghost use Rattle.std.specs.Prelude.{◌≡◌, ◌<◌, ◌≤◌, ◌+◌, ℕ, true, false, IfOk, IfSome, List};
-ghost use Rattle.std.specs.Prelude.{MatchOption, length, map};
+ghost use Rattle.std.specs.Prelude.{MatchOption, OnOk, length, map};
 ghost use Rattle.merge_laws.specs.Grouped.{Group, with_device};
 ghost use Rattle.merge_laws.specs.Merge.{width_of};
 ghost use Rattle.net_model.specs.Rows.{plain_device};
@@ -75,6 +75,7 @@ impl<'a> Merging<'a> {
             → IsMerging self.old gs
             → are_wider self.old.most (with_device gs (placed place (plain_device row.now)))
             ≡ true) }
+        ensures most { OnOk result (self.new.most ≡ self.old.most) }
     {
         let width = width_of(row);
         let place = self.keys.place(row);

@@ -8,8 +8,9 @@ ghost use Rattle.net_model.specs.Tests.{first_of};
 ghost use Rattle.plain_netlist.specs.Netlist.{DeviceRow};
 ghost use Rattle.plain_netlist.specs.Normal.{IsNormalNetlist};
 ghost use Rattle.plain_netlist.specs.Sound.{IsSoundNetlist};
-ghost use Rattle.device_merge.specs.Merged.{AreAllUnlike, AreMergedAlike, IsMergeFault};
-ghost use Rattle.device_merge.specs.Merged.{IsMergedCircuit, IsNarrow};
+ghost use Rattle.device_merge.specs.Merged.{AreAllUnlike, AreMergedAlike, IsCircuitMergedBy};
+ghost use Rattle.device_merge.specs.Merged.{IsMergeFault, IsMergedCircuit, IsNarrow};
+ghost use Rattle.device_merge.specs.Merged.{has_alike, is_shorter};
 
 use crate::fault::MergeFault;
 use crate::groups::{WIDEST, merge_up_to};
@@ -33,8 +34,8 @@ fn copy_calls(alloc: Global, calls: &[CallRow]) -> Result<Vec<CallRow>, AllocErr
 
 // The circuit with each group of alike transistors as one; none where one of them is wider than
 // this, in femtometres.
-fn merge_circuit(alloc: Global, c: &Circuit, most: u128) -> Result<Option<Circuit>, AllocError>
-    ensures { IfOk result (IsMergedCircuit most (plain_circuit c.now)) }
+fn circuit_up_to(alloc: Global, c: &Circuit, most: u128) -> Result<Option<Circuit>, AllocError>
+    ensures { IfOk result (IsCircuitMergedBy most (plain_circuit c.now)) }
 {
     let Some(devices) = merge_up_to(alloc, &c.devices, most)? else {
         return Ok(None);
@@ -46,6 +47,13 @@ fn merge_circuit(alloc: Global, c: &Circuit, most: u128) -> Result<Option<Circui
         devices,
         calls: copy_calls(alloc, &c.calls)?,
     }))
+}
+
+// The circuit with each group of alike transistors as one; none where one of them is too wide.
+fn merge_circuit(alloc: Global, c: &Circuit) -> Result<Option<Circuit>, AllocError>
+    ensures { IfOk result (IsMergedCircuit (plain_circuit c.now)) }
+{
+    circuit_up_to(alloc, c, WIDEST)
 }
 
 fn add(circuits: &mut Vec<Circuit>, c: Circuit) -> Result<(), AllocError>
@@ -68,7 +76,7 @@ fn merge_circuits(alloc: Global, n: &Netlist) -> Result<Vec<Circuit>, MergeFault
     let mut count = 0;
     let mut rest = n.circuits.as_slice();
     'circuits: while let [circuit, more @ ..] = rest {
-        match merge_circuit(alloc, circuit, WIDEST)? {
+        match merge_circuit(alloc, circuit)? {
             Some(merged) => add(&mut circuits, merged)?,
             None => return Err(MergeFault::TooWide(count)),
         }
@@ -112,26 +120,49 @@ fn merge_narrow(alloc: Global, c: &Circuit) -> Result<Circuit, AllocError>
     ensures { IfOk result (λ m. plain_circuit m ≡ merged_circuit (plain_circuit c.now)) }
 {
     number(c.devices.len())?;
-    let Some(merged) = merge_circuit(alloc, c, u128::MAX)? else {
+    let Some(merged) = circuit_up_to(alloc, c, u128::MAX)? else {
         unreachable!()
     };
     Ok(merged)
+}
+
+// Whether a merged circuit has less devices than the one that it was made of.
+fn is_shorter(merged: &Circuit, c: &Circuit) -> bool
+    requires { plain_circuit merged.now ≡ merged_circuit (plain_circuit c.now) }
+    ensures { result ≡ is_shorter (plain_circuit c.now) }
+{
+    merged.devices.len() < c.devices.len()
+}
+
+/// A netlist merged once more, and whether that is another one: whether some transistors of a
+/// circuit were alike.
+#[derive(Drop)]
+pub struct MergedAgain {
+    pub netlist: Netlist,
+    pub had_alike: bool,
 }
 
 /// A netlist without too wide devices, with each group of alike transistors of a circuit as one, as
 /// in `merge`. It may have wider ones than `merge` leaves, and is never refused for that: less than
 /// 2^32 devices of at most 10^27 femtometres are less than 2^128 wide. Linear. An `Err` is want of
 /// memory, or 2^32 devices or more in a circuit.
-pub fn merge_again(alloc: Global, n: &Netlist) -> Result<Netlist, AllocError>
+pub fn merge_again(alloc: Global, n: &Netlist) -> Result<MergedAgain, AllocError>
     requires { IsNarrow (plain_netlist n.now) }
-    ensures { IfOk result (λ m. plain_netlist m ≡ merged_netlist (plain_netlist n.now)) }
+    ensures merged { IfOk result (λ m. plain_netlist m.netlist
+        ≡ merged_netlist (plain_netlist n.now)) }
+    ensures alike { IfOk result (λ m. m.had_alike ≡ has_alike (plain_netlist n.now)) }
 {
     let mut circuits = Vec::new(alloc);
+    let mut had_alike = false;
     let mut rest = n.circuits.as_slice();
     'circuits: while let [circuit, more @ ..] = rest {
         let merged = merge_narrow(alloc, circuit)?;
+        had_alike = had_alike || is_shorter(&merged, circuit);
         add(&mut circuits, merged)?;
         rest = more;
     }
-    Ok(Netlist { circuits })
+    Ok(MergedAgain {
+        netlist: Netlist { circuits },
+        had_alike,
+    })
 }

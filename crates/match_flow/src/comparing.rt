@@ -1,6 +1,8 @@
 //! The comparison of a layout's netlist with a schematic.
-ghost use Rattle.std.specs.Prelude.{◌≡◌, ◌↔◌, ◌<◌, IfOk, IfSome, IsNone, length, map, true};
-ghost use Rattle.device_merge.specs.Merged.{IsNarrow};
+ghost use Rattle.std.specs.Prelude.{◌≡◌, ◌&&◌, ◌||◌, ◌↔◌, ◌<◌, IfOk, IfSome, IsNone};
+ghost use Rattle.std.specs.Prelude.{length, map, true};
+ghost use Rattle.std.specs.List.{list_any};
+ghost use Rattle.device_merge.specs.Merged.{IsNarrow, has_alike};
 ghost use Rattle.match_flow.specs.Again.{IsAnswered};
 ghost use Rattle.match_types.specs.Plain.{plain_answer};
 ghost use Rattle.match_types.specs.Answered.{asked_of};
@@ -9,7 +11,7 @@ ghost use Rattle.net_align.specs.Compared.{AreAligned, AreCalleesFirst, AreCompa
 ghost use Rattle.net_align.specs.Compared.{HasNoPartner, IsAlignable};
 ghost use Rattle.net_align.specs.Names.{left_names, right_names};
 ghost use Rattle.net_model.specs.Rows.{plain_netlist};
-ghost use Rattle.pair_jobs.specs.Answers.{AreAllAnswers};
+ghost use Rattle.pair_jobs.specs.Answers.{AreAllAnswers, is_difference};
 ghost use Rattle.plain_netlist.specs.Lists.{AreApart};
 
 use crate::phase::PairPhase;
@@ -63,24 +65,43 @@ fn answer_pairs<R: Threads + Wait + Sync, G: Gate + Sync>(
     run_phase(alloc, &phase, crew)
 }
 
-// The answers of all pairs, each group of alike transistors of a circuit being one once more.
+// Whether a pair differs and the settings say that all are then answered again.
+fn asks_again(settings: &Settings<'_>, first: &Results<Answer>) -> Result<bool, AllocError>
+    ensures { IfOk result (λ asked. asked ≡ (settings.now.merges_again
+        && list_any is_difference (map plain_answer first.now))) }
+{
+    if !settings.merges_again {
+        return Ok(false);
+    }
+    some_differs(first)
+}
+
+// The answers of all pairs, each group of alike transistors of a circuit being one once more; none
+// where none are alike.
 fn answer_merged<R: Threads + Wait + Sync, G: Gate + Sync>(
     alloc: Global,
     left: &Netlist,
     right: &Netlist,
     settings: &Settings<'_>,
     crew: &Crew<R, G>,
-) -> Result<Results<Answer>, AllocError>
+) -> Result<Option<Results<Answer>>, AllocError>
     requires sides { AreComparable (plain_netlist left.now) (plain_netlist right.now) }
     requires left_narrow { IsNarrow (plain_netlist left.now) }
     requires right_narrow { IsNarrow (plain_netlist right.now) }
-    ensures { IfOk result (λ answers. AreAllAnswers (merged_netlist (plain_netlist left.now))
-        (merged_netlist (plain_netlist right.now)) (asked_of (plain_netlist left.now)
-        settings.now.limit settings.now.same_pins) (map plain_answer answers)) }
+    ensures alike { IfOk result (λ found. is_some found
+        ≡ (has_alike (plain_netlist left.now) || has_alike (plain_netlist right.now))) }
+    ensures answers { IfOk result (λ found. IfSome found (λ answers. AreAllAnswers
+        (merged_netlist (plain_netlist left.now)) (merged_netlist (plain_netlist right.now))
+        (asked_of (plain_netlist left.now) settings.now.limit settings.now.same_pins)
+        (map plain_answer answers))) }
 {
     let near = merge_again(alloc, left)?;
     let far = merge_again(alloc, right)?;
-    answer_pairs(alloc, &near, &far, settings, crew)
+    if !near.had_alike && !far.had_alike {
+        return Ok(None);
+    }
+    let answers = answer_pairs(alloc, &near.netlist, &far.netlist, settings, crew)?;
+    Ok(Some(answers))
 }
 
 // The answers of all pairs, and whether they are of circuits merged once more.
@@ -107,25 +128,30 @@ fn answer<R: Threads + Wait + Sync, G: Gate + Sync>(
         (map plain_answer a.answers)) }
 {
     let first = answer_pairs(alloc, left, right, settings, crew)?;
-    if !settings.merges_again || !some_differs(&first)? {
+    if !asks_again(settings, &first)? {
         return Ok(Answered {
             merged_again: false,
             answers: first,
         });
     }
-    let answers = answer_merged(alloc, left, right, settings, crew)?;
-    Ok(Answered {
-        merged_again: true,
-        answers,
-    })
+    match answer_merged(alloc, left, right, settings, crew)? {
+        Some(answers) => Ok(Answered {
+            merged_again: true,
+            answers,
+        }),
+        None => Ok(Answered {
+            merged_again: false,
+            answers: first,
+        }),
+    }
 }
 
 /// The layout below its top compared with the schematic; nothing where the top has no partner.
 /// Partners are as `align` finds them, and a pair is compared after those that its left circuit
 /// calls. Where a pair differs and the settings say so, all pairs are compared again, each group of
-/// alike transistors of a circuit being one once more, as `merge_again` makes it: those that stand
-/// together since circuits were flattened. The answer is the same for every number of workers. The
-/// error is want of memory.
+/// alike transistors of a circuit being one once more, as `merge_again` makes it: of those that
+/// stand together since circuits were flattened; unless none are alike. The answer is the same for
+/// every number of workers. The error is want of memory.
 pub fn compare<R: Threads + Wait + Sync, G: Gate + Sync>(
     alloc: Global,
     layout: &Netlist,

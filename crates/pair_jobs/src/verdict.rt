@@ -44,7 +44,8 @@ pub fn some_differs(answers: &Results<Answer>) -> Result<bool, AllocError>
         ≡ list_any is_difference (map plain_answer answers.now)) }
     ensures err { OnErr result (2 ^ 32 ≤ length answers.now) }
 {
-    match judge(answers)? {
+    let verdict = judge(answers)?;
+    match verdict {
         Verdict::Mismatch => Ok(true),
         Verdict::Match => Ok(false),
         Verdict::Undecided => Ok(false),

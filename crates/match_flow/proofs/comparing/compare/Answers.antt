@@ -1,4 +1,6 @@
 use Rattle.std.proofs.Common.{refl}
+use Rattle.net_model.specs.Rows.{plain_netlist}
+use Rattle.match_flow.proofs.Narrow.{narrow_kept}
 use Rattle.match_flow.proofs.Sided.{none_is}
 use Rattle.match_flow.proofs.comparing.compare.Goals as goal
 
