@@ -98,9 +98,11 @@ as_before sides order together one d r layout top bad schematic text pairs v fin
       | inl off ↦ ap (λ (b : Bool). b && list_any is_difference h.first) off
       | inr never ↦ ap (λ (b : Bool). merges_again r && b) (ap (λ (vs : List Answer). list_any is_difference vs) first_given ∙ none_differs given never) ∙ and_false (merges_again r)
     ] in
-    let once = h.again_is ∙ ap (λ (b : Bool). b && alike) quiet in
-    (once, last_is together one (merges_again r) r.max_guesses r.tells_pins left right ordered_sides f.merged_again (answers_of f) h given
-    (subst (λ (b : Bool). AreAllAnswers (as_answered b left) (as_answered b right) (asked_of left r.max_guesses r.tells_pins) given) (sym once) are))
+    let once = h.again_is ∙ ap (λ (b : Bool). b && alike) quiet in (
+      once,
+      last_is together one (merges_again r) r.max_guesses r.tells_pins left right ordered_sides f.merged_again (answers_of f) h given
+          (subst (λ (b : Bool). AreAllAnswers (as_answered b left) (as_answered b right) (asked_of left r.max_guesses r.tells_pins) given) (sym once) are),
+    )
   where
     and_false : (b : Bool) → (b && false) ≡ false
     and_false true = refl
