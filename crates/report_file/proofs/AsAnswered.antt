@@ -2,6 +2,7 @@
 use Rattle.std.proofs.Common.{◌≡◌, ℕ, suc, Bool, true, false, ◌&&◌, cond, List, [], ◌∷◌, map, length, refl, sym, ap, subst, ◌∙◌}
 use Rattle.std.specs.List.{list_any}
 use Rattle.align_laws.specs.Partners.{AreSides}
+use Rattle.match_flow.proofs.Again.{as_many}
 use Rattle.match_flow.specs.Again.{IsAnswered, as_answered}
 use Rattle.match_laws.specs.Answer.{Answer}
 use Rattle.merge_laws.proofs.Kept.{good_merged}
@@ -49,11 +50,7 @@ answered_order again left right h = record { sides = answered_sides again left r
 
 -- there are as many circuits
 pub answered_long : (again : Bool) (nl : Netlist) → length (as_answered again nl).circuits ≡ length nl.circuits
-answered_long true nl = step nl.circuits
-  where
-    step : (cs : List Circuit) → length (merged_netlist (record { circuits = cs })).circuits ≡ length cs
-    step [] = refl
-    step (c ∷ cs) = ap suc (step cs)
+answered_long true nl = as_many nl
 answered_long false nl = refl
 
 -- and as many answers

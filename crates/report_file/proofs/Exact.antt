@@ -1,5 +1,5 @@
 -- A mismatch without a flat correspondence.
-use Rattle.std.proofs.Common.{◌≡◌, inl, inr, ℕ, ◌+◌, ◌==◌, ◌&&◌, Bool, true, false, List, [], ◌∷◌, length, Option, Some, sym, ap, subst, ◌∙◌, arith, true≢false}
+use Rattle.std.proofs.Common.{◌≡◌, inl, inr, ℕ, ◌+◌, ◌==◌, ◌&&◌, ◌||◌, Bool, true, false, List, [], ◌∷◌, length, Option, Some, sym, ap, subst, ◌∙◌, arith, true≢false}
 use Rattle.std.specs.List.{Any, list_any}
 use Rattle.align_laws.specs.Cut.{Alignment}
 use Rattle.align_laws.specs.Partners.{AlignedSidesLaw, IsAlignedPair, LeftOrderLaw}
@@ -8,7 +8,7 @@ use Rattle.composed_laws.specs.Answered.{OneAnswerOfLaw, TogetherAnswersLaw}
 use Rattle.deep_tables.specs.declared.gates.BadGate.{BadGate}
 use Rattle.flat_layout.specs.Regions.{Node}
 use Rattle.headline_laws.specs.FlatNetlist.{flat_netlist, FlatCorrespondsLaw, IsFlatGateOf, IsFlatRegionOf}
-use Rattle.match_flow.specs.Again.{as_answered}
+use Rattle.device_merge.specs.Merged.{has_alike}
 use Rattle.match_laws.specs.Answer.{Answer, IsDifference}
 use Rattle.match_report.specs.Report.{answers_of}
 use Rattle.match_report.specs.declared.report.Compared.{Compared}
@@ -16,7 +16,7 @@ use Rattle.merge_laws.proofs.Flats.{merged_same}
 use Rattle.merge_laws.specs.Grouped.{merged_netlist}
 use Rattle.merge_laws.specs.Merge.{merged}
 use Rattle.net_model.specs.Rows.{plain_netlist}
-use Rattle.pair_jobs.specs.Answers.{AreAllAnswers, KeptPairLaw, is_difference}
+use Rattle.pair_jobs.specs.Answers.{KeptPairLaw, is_difference}
 use Rattle.pair_jobs.specs.Verdict.{IsRunVerdict}
 use Rattle.pair_jobs.specs.declared.verdict.Verdict.TheVariants as verdict
 use Rattle.pair_turns.specs.Alone.{Names, with_gone}
@@ -107,17 +107,17 @@ exact_report laws d r unit layout top bad schematic text pairs fine first x on n
     let gates_expanded = laws.flat (plain d) (wiring_of r) m.tables m.circuits layout (device_rules r) unit m.level m.are_right top m.top_is in
     record {
       flat = λ e device net names match.
-          let once = c.1.again_is ∙ ap (λ (b : Bool). b && list_any is_difference c.1.first) (never_again r e) in
+          let once = c.1.again_is ∙ ap (λ (b : Bool). b && list_any is_difference c.1.first && (has_alike left || has_alike right)) (never_again r e) in
           let p = pair_of r layout schematic layout schematic top m.partner m.same left right m.left_by m.right_by (as_it_is r layout e) (as_it_is r schematic e) m.aligned in
           once_nowhere layout schematic top m.partner m.same left right m.left_by m.right_by p first r.tells_pins (asked_by r f) told laws.kept o (answers_of f) apart (Through gates (Passes device)) (Through regions (Passes net))
           (λ set. names_through r layout schematic layout schematic top m.partner regions (Passes net) (as_it_is r layout e) (as_it_is r schematic e) (names set))
           f.merged_again once c.1.at_last
           (through (expanded layout top) flat (expanded schematic m.partner) gates regions (Passes device) (Passes net) gates_expanded match);
       combined = λ e device net names match.
-          let again = made_again laws.together laws.one r left right o f.merged_again (answers_of f) c.1 e on any in
+          let are = made_again laws.together laws.one r left right o f.merged_again (answers_of f) c.1 e on any in
           let p = pair_of r layout schematic (merged_netlist layout) (merged_netlist schematic) top m.partner m.same left right m.left_by m.right_by (as_merged r layout e) (as_merged r schematic e) m.aligned in
           again_nowhere layout schematic top m.partner m.same left right m.left_by m.right_by p (combined_order layout first) r.tells_pins (asked_by r f) told laws.kept o (answers_of f) apart (Through gates (Passes device)) (Through regions (Passes net))
           (λ set. names_through r layout schematic (merged_netlist layout) (merged_netlist schematic) top m.partner regions (Passes net) (as_merged r layout e) (as_merged r schematic e) (names set))
-          (subst (λ (b : Bool). AreAllAnswers (as_answered b left) (as_answered b right) (asked_by r f) (answers_of f)) again c.1.at_last)
+          are
           (through (merged (expanded layout top)) (merged flat) (merged (expanded schematic m.partner)) gates regions (Passes device) (Passes net) (merged_same (expanded layout top) flat gates regions gates_expanded) match);
     }

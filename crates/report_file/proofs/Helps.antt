@@ -5,6 +5,7 @@ use Rattle.std.specs.List.{All, list_any}
 use Rattle.std.proofs.lemmas.Bool.{and_parts}
 use Rattle.std.proofs.lemmas.List.Folds.{list_any_none}
 use Rattle.std.proofs.lemmas.Option.{slice_get_within, get_or_from_slice_get}
+use Rattle.device_merge.specs.Merged.{has_alike}
 use Rattle.match_flow.specs.Again.{IsAnswered}
 use Rattle.match_laws.specs.Answer.{Answer, DiffersByTree, DiffersInRound, Match, Skipped, Undecided}
 use Rattle.match_report.specs.Report.{answers_of}
@@ -86,7 +87,7 @@ answered_so : (r : Rules) (left right : Netlist) (again : Bool) (answers : List 
 answered_so r left right false answers all h = record {
   first = answers;
   at_first = h.at_last;
-  again_is = sym (ap (λ (b : Bool). merges_again (flattening r) && b) (none_again answers all) ∙ and_false (merges_again (flattening r)));
+  again_is = sym (ap (λ (b : Bool). merges_again (flattening r) && b && (has_alike left || has_alike right)) (none_again answers all) ∙ ap (λ (b : Bool). b && (has_alike left || has_alike right)) (and_false (merges_again (flattening r))));
   at_last = h.at_last;
 }
   where
@@ -94,12 +95,13 @@ answered_so r left right false answers all h = record {
     and_false true = refl
     and_false false = refl
 answered_so r left right true answers all h =
-    let both = and_parts (merges_again r) (list_any is_difference h.first) (sym h.again_is) in
+    let parts = and_parts (merges_again r && list_any is_difference h.first) (has_alike left || has_alike right) (sym h.again_is) in
+    let both = and_parts (merges_again r) (list_any is_difference h.first) parts.0 in
     let combines = (and_parts r.combine (flattens r) both.0).0 in
     record {
       first = h.first;
       at_first = h.at_first;
-      again_is = sym (ap (λ (b : Bool). (b && true) && list_any is_difference h.first) combines ∙ both.1);
+      again_is = sym (ap (λ (b : Bool). b && true && list_any is_difference h.first && (has_alike left || has_alike right)) combines ∙ (ap (λ (b : Bool). b && (has_alike left || has_alike right)) both.1 ∙ parts.1));
       at_last = h.at_last;
     }
 

@@ -7,6 +7,7 @@ use Rattle.align_laws.proofs.Joined.{net_on}
 use Rattle.align_laws.specs.Aligned.{IsDeviceAligned, IsNetAligned}
 use Rattle.align_laws.specs.Cut.{Alignment}
 use Rattle.align_laws.specs.Partners.{IsAlignedPair, LeftOrderLaw}
+use Rattle.device_merge.specs.Merged.{has_alike}
 use Rattle.cell_graph.specs.Linked.{Linked, plain}
 use Rattle.composed_laws.specs.Answered.{Asked}
 use Rattle.composed_laws.specs.Composed.{AreNetsPaired}
@@ -142,7 +143,7 @@ module _ (alignable : CombinedAlignableLaw) (good : ExtractedGoodLaw) (order : L
             through F (expanded layout top) (expanded schematic a.right_top) (Reversed gates_of) (Reversed regions_of) D N
             (reversed (expanded layout top) F gates_of regions_of gates_expanded)
             (compared_as layout schematic (as_it_is r layout e) (as_it_is r schematic e) (λ x y. Corresponds (expanded x top) (expanded y a.right_top) D N)
-            (pairs_once tops near far top a.right_top same left right_side a.left_by a.right_by p (asked_by r f) (answers_of f) f.merged_again (c.1.again_is ∙ ap (λ (b : Bool). b && list_any is_difference c.1.first) (never_again r e)) c.1.at_last h.1));
+            (pairs_once tops near far top a.right_top same left right_side a.left_by a.right_by p (asked_by r f) (answers_of f) f.merged_again (c.1.again_is ∙ ap (λ (b : Bool). b && list_any is_difference c.1.first && (has_alike left || has_alike right_side)) (never_again r e)) c.1.at_last h.1));
         combined = λ e.
             merged_by (plain d) (wiring_of r) t g layout (device_rules r) unit level right top top_is schematic a.right_top D N
             (compared_as (merged_netlist layout) (merged_netlist schematic) (as_merged r layout e) (as_merged r schematic e) (λ x y. Corresponds (merged (expanded x top)) (merged (expanded y a.right_top)) D N)

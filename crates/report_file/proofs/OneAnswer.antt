@@ -8,9 +8,12 @@ use Rattle.std.proofs.lemmas.List.Folds.{Any-from_list_any, list_any-from_Any}
 use Rattle.std.proofs.lemmas.Option.{slice_get-get_or}
 use Rattle.align_laws.specs.Partners.{AlignedSidesLaw, LeftOrderLaw}
 use Rattle.composed_laws.specs.Answered.{Asked, OneAnswerOfLaw, TogetherAnswersLaw}
+use Rattle.device_merge.specs.Merged.{has_alike}
+use Rattle.match_flow.proofs.Again.{answered_merged}
 use Rattle.match_flow.specs.Again.{IsAnswered, as_answered}
 use Rattle.match_laws.specs.Answer.{Answer, DiffersByTree, DiffersInRound, IsDifference, Match, Skipped, Undecided}
 use Rattle.match_types.specs.Answered.{asked_of}
+use Rattle.merge_laws.specs.Grouped.{merged_netlist}
 use Rattle.pair_jobs.specs.Answers.{AreAllAnswers, answer_at, is_difference}
 use Rattle.net_model.specs.Rows.{plain_netlist}
 use Rattle.match_report.specs.Report.{answers_of}
@@ -51,7 +54,7 @@ module _ (together : TogetherAnswersLaw) (one : OneAnswerOfLaw) (merges : Bool) 
 
   pub one_answered : (other : Bool) (others : List Answer) → IsAnswered merges limit same_pins left right other others → (again ≡ other) × (answers ≡ others)
   one_answered other others g =
-      let same : again ≡ other = h.again_is ∙ (ap (λ (vs : List Answer). merges && list_any is_difference vs) (first_is g.first g.at_first) ∙ sym g.again_is) in
+      let same : again ≡ other = h.again_is ∙ (ap (λ (vs : List Answer). merges && list_any is_difference vs && (has_alike left || has_alike right)) (first_is g.first g.at_first) ∙ sym g.again_is) in
       (same, last_is others (subst (λ (b : Bool). AreAllAnswers (as_answered b left) (as_answered b right) asked others) (sym same) g.at_last))
 
 -- the test of answers that differ
@@ -71,16 +74,16 @@ none_differs answers never = elim (cases_Bool (list_any is_difference answers)) 
 some_differs : (answers : List Answer) → Any IsDifference answers → list_any is_difference answers ≡ true
 some_differs answers a = list_any-from_Any is_difference answers (a.0, a.1, a.2, a.3, differs a.1 a.4)
 
--- where devices are combined, what differs is taken apart and some pair differs, devices were made one once more
+-- where devices are combined, what differs is taken apart and some pair differs, the answers are those of the circuits merged once more
 pub made_again : TogetherAnswersLaw → OneAnswerOfLaw → (r : Rules) (left right : Netlist) → HaveOrder left right → (again : Bool) (answers : List Answer) → IsAnswered (merges_again r) r.max_guesses r.tells_pins left right again answers
-    → r.combine ≡ true → r.flattens_unmatched ≡ true → Any IsDifference answers → again ≡ true
-made_again together one r left right order true answers h combines on any = refl
+    → r.combine ≡ true → r.flattens_unmatched ≡ true → Any IsDifference answers → AreAllAnswers (merged_netlist left) (merged_netlist right) (asked_of left r.max_guesses r.tells_pins) answers
+made_again together one r left right order true answers h combines on any = h.at_last
 made_again together one r left right order false answers h combines on any =
     let e = first_is together one (merges_again r) r.max_guesses r.tells_pins left right order false answers h answers h.at_last in
     let found : list_any is_difference h.first ≡ true = ap (λ (vs : List Answer). list_any is_difference vs) e ∙ some_differs answers any in
     let merges : merges_again r ≡ true =
     ap (λ (b : Bool). b && flattens r) combines ∙ ap (λ (b : Bool). b || not (length r.flat_layouts == 0 && length r.flat_schematics == 0)) on in
-    h.again_is ∙ (ap (λ (b : Bool). b && list_any is_difference h.first) merges ∙ found)
+    answered_merged (merges_again r) r.max_guesses r.tells_pins left right false answers merges h found
 
 pub as_before : AlignedSidesLaw → LeftOrderLaw → TogetherAnswersLaw → OneAnswerOfLaw → AsBeforeLaw
 as_before sides order together one d r layout top bad schematic text pairs v fine first x f e given are none =
@@ -90,13 +93,16 @@ as_before sides order together one d r layout top bad schematic text pairs v fin
     let ordered_sides = ordered sides order layout schematic top x.same left right fine first c.0 in
     let h = c.1 in
     let first_given = first_is together one (merges_again r) r.max_guesses r.tells_pins left right ordered_sides f.merged_again (answers_of f) h given are in
+    let alike = has_alike left || has_alike right in
     let quiet : (merges_again r && list_any is_difference h.first) ≡ false = elim none [
       | inl off ↦ ap (λ (b : Bool). b && list_any is_difference h.first) off
       | inr never ↦ ap (λ (b : Bool). merges_again r && b) (ap (λ (vs : List Answer). list_any is_difference vs) first_given ∙ none_differs given never) ∙ and_false (merges_again r)
     ] in
-    let once = h.again_is ∙ quiet in
-    (once, last_is together one (merges_again r) r.max_guesses r.tells_pins left right ordered_sides f.merged_again (answers_of f) h given
-    (subst (λ (b : Bool). AreAllAnswers (as_answered b left) (as_answered b right) (asked_of left r.max_guesses r.tells_pins) given) (sym once) are))
+    let once = h.again_is ∙ ap (λ (b : Bool). b && alike) quiet in (
+      once,
+      last_is together one (merges_again r) r.max_guesses r.tells_pins left right ordered_sides f.merged_again (answers_of f) h given
+          (subst (λ (b : Bool). AreAllAnswers (as_answered b left) (as_answered b right) (asked_of left r.max_guesses r.tells_pins) given) (sym once) are),
+    )
   where
     and_false : (b : Bool) → (b && false) ≡ false
     and_false true = refl

@@ -1,13 +1,15 @@
 -- A comparison, and what follows it.
-use Rattle.std.proofs.Common.{◌≡◌, ℕ, ◌<◌, Bool, true, List, [], ◌++◌, Option, Some, None, refl, sym, ap, subst, ◌∙◌, arith}
+use Rattle.std.proofs.Common.{◌≡◌, ℕ, ◌<◌, Bool, true, List, [], ◌++◌, length, Option, Some, None, refl, sym, ap, subst, ◌∙◌, arith}
 use Rattle.base_laws.proofs.Items.{item_at}
+use Rattle.base_laws.proofs.Lists.{map_count}
 use Rattle.std.proofs.lemmas.Option.{slice_get_within}
 use Rattle.align_laws.specs.Partners.{AreSides}
 use Rattle.align_laws.proofs.Sides.{aligned_sides}
 use Rattle.match_report.specs.Report.{answers_of}
 use Rattle.match_report.specs.declared.report.Compared.{Compared}
 use Rattle.net_align.specs.Compared.{IsAlignable}
-use Rattle.net_model.specs.Rows.{plain_netlist}
+use Rattle.match_types.specs.Plain.{plain_answer}
+use Rattle.net_model.specs.Rows.{plain_circuit, plain_netlist}
 use Rattle.pair_turns.specs.Alone.{Names, all_names, longest, same_alone, with_gone}
 use Rattle.pair_turns.specs.Laws.{AloneLaw, LongestLaw}
 use Rattle.plain_netlist.specs.Netlist.{Netlist}
@@ -42,6 +44,12 @@ begins law r layout top schematic begun sound by most longest_is lines e =
 pub compared_sides : (r : Rules) (layout : Netlist) (top : ℕ) (schematic : Netlist) (same : List (List ℕ × List ℕ)) (f : Compared) → IsComparison r layout top schematic same (Some f) → AreSides (plain_netlist f.left) (plain_netlist f.right)
 compared_sides r layout top schematic same f h =
     let a = h.0 in aligned_sides layout schematic top a.right_top same (plain_netlist f.left) (plain_netlist f.right) a.left_by a.right_by a.are
+
+-- as many answers as circuits
+pub compared_count : (r : Rules) (layout : Netlist) (top : ℕ) (schematic : Netlist) (same : List (List ℕ × List ℕ)) (f : Compared) → IsComparison r layout top schematic same (Some f) → length f.answers ≡ length f.left.circuits.items
+compared_count r layout top schematic same f h =
+    sym (map_count plain_answer f.answers)
+    ∙ (answer_count (merges_again r) r.max_guesses r.tells_pins (plain_netlist f.left) (plain_netlist f.right) f.merged_again (answers_of f) h.1 ∙ map_count plain_circuit f.left.circuits.items)
 
 module _ (r : Rules) (layout : Netlist) (top : ℕ) (schematic : Netlist) (most : ℕ) (begun alone : Names) (lines : List ℕ) (taken : AreTaken r layout top schematic most begun alone lines) (same : List (List ℕ × List ℕ)) (told : same ≡ same_alone most alone r.same) where
   -- the last one

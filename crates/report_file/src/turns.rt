@@ -1,7 +1,9 @@
 //! Layout and schematic compared in turns.
-ghost use Rattle.std.specs.Prelude.{◌≡◌, ◌<◌, ◌++◌, IfOk, IfSome, IsNone, length, slice_get};
+ghost use Rattle.std.specs.Prelude.{◌≡◌, ◌<◌, ◌++◌, IfOk, IfSome, IsNone, OnOk, length, slice_get};
 ghost use Rattle.align_laws.specs.Partners.{AreSides};
+ghost use Rattle.match_report.specs.Apart.{apart_texts};
 ghost use Rattle.match_report.specs.Pairs.{name_of};
+ghost use Rattle.match_report.specs.Report.{again_line, answers_of, lefts_of, rights_of};
 ghost use Rattle.net_align.specs.Compared.{AreCalleesFirst, IsAlignable};
 ghost use Rattle.net_align.specs.Names.{left_names, right_names};
 ghost use Rattle.net_model.specs.Rows.{plain_netlist};
@@ -150,6 +152,27 @@ fn alone_by_rules(
     Ok(Alone { lefts, rights })
 }
 
+// The lines of a turn, in which these pairs go.
+fn push_turn(
+    alloc: Global,
+    lines: &mut Vec<u8>,
+    found: &Compared,
+    goes: &[bool],
+) -> Result<(), AllocError>
+    ensures { OnOk result (lines.new.items ≡ lines.old.items
+        ++ (again_line found.now.merged_again ++ apart_texts (lefts_of found.now)
+        (rights_of found.now) 0 goes.now (answers_of found.now))) }
+{
+    let Compared {
+        left,
+        right,
+        merged_again,
+        answers,
+    } = found;
+    push_again(lines, *merged_again)?;
+    push_apart(alloc, lines, &left.circuits, &right.circuits, goes, answers)
+}
+
 // The marks of the pairs that are taken apart after a comparison, with their lines added; none
 // where it is the last one, which has a line where a circuit would become too large.
 fn take_apart(
@@ -165,32 +188,18 @@ fn take_apart(
     ensures turn { IfOk result (λ next. IfSome next (λ goes.
         AddsTurn (rules_seen rules.now) found.now goes.items lines.old.items lines.new.items)) }
 {
-    let Compared {
-        left,
-        right,
-        merged_again,
-        answers,
-    } = found;
     if !rules.flattens_unmatched {
         return Ok(None);
     }
-    let goes = going(alloc, left, right, answers)?;
+    let goes = going(alloc, &found.left, &found.right, &found.answers)?;
     if !is_any(&goes) {
         return Ok(None);
     }
-    if let Some(k) = first_over(alloc, left, right, &goes)? {
-        push_limit(alloc, lines, &left.circuits, k)?;
+    if let Some(k) = first_over(alloc, &found.left, &found.right, &goes)? {
+        push_limit(alloc, lines, &found.left.circuits, k)?;
         return Ok(None);
     }
-    push_again(lines, *merged_again)?;
-    push_apart(
-        alloc,
-        lines,
-        &left.circuits,
-        &right.circuits,
-        &goes,
-        answers,
-    )?;
+    push_turn(alloc, lines, found, &goes)?;
     Ok(Some(goes))
 }
 

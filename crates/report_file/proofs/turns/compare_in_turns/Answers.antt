@@ -9,7 +9,7 @@ use Rattle.pair_turns.specs.Seen.{names_in}
 use Rattle.plain_netlist.specs.Lists.{AreApart}
 use Rattle.report_file.specs.Compared.{IsComparison}
 use Rattle.report_file.specs.Taken.{AddsTurn}
-use Rattle.report_file.proofs.Taking.{begins, compared_sides, ended, fewer, none_of, told_so, went_on}
+use Rattle.report_file.proofs.Taking.{begins, compared_count, compared_sides, ended, fewer, none_of, told_so, went_on}
 use Rattle.report_file.proofs.Turned.{lefts_once, rights_once}
 use Rattle.report_file.proofs.turns.compare_in_turns.Goals as goal
 use Rattle.rule_text.specs.Seen.{rules_seen}
@@ -72,6 +72,15 @@ take_apart-requires-clause-sides g c =
     let same = c.deref-in-turns-2.result.now in
     let compared : IsComparison r layout c.args.top schematic same (Some c.in-Some.found) = subst (λ (o : Option Compared). IsComparison r layout c.args.top schematic same o) c.in-Some.is c.in_ok-found.ensures in
     compared_sides r layout c.args.top schematic same c.in-Some.found compared
+
+pub take_apart-requires-clause-count : goal.take_apart-requires-clause-count
+take_apart-requires-clause-count g c =
+    let r = rules_seen c.args.rules.now in
+    let layout = plain_netlist c.args.layout.now in
+    let schematic = plain_netlist c.args.schematic.now in
+    let same = c.deref-in-turns-2.result.now in
+    let compared : IsComparison r layout c.args.top schematic same (Some c.in-Some.found) = subst (λ (o : Option Compared). IsComparison r layout c.args.top schematic same o) c.in-Some.is c.in_ok-found.ensures in
+    compared_count r layout c.args.top schematic same c.in-Some.found compared
 
 pub returns-in_default-2 : goal.returns-in_default-2
 returns-in_default-2 g c =
