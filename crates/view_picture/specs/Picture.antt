@@ -96,10 +96,10 @@ pub record IsPlacedAs (answered left : Circuit) (d v : Drawn) : Type 0 where
 abbrev pub AreAllPlaced : List Circuit → List Circuit → List Drawn → List Drawn → Type 0
 AreAllPlaced answered lefts [] vs = vs ≡ []
 AreAllPlaced [] lefts (d ∷ ds) vs = vs ≡ []
-AreAllPlaced (a ∷ as) [] (d ∷ ds) vs = vs ≡ []
-AreAllPlaced (a ∷ as) (c ∷ cs) (d ∷ ds) [] = ⊥
-AreAllPlaced (a ∷ as) (c ∷ cs) (d ∷ ds) (v ∷ vs) =
-    IsPlacedAs a c d v × AreAllPlaced as cs ds vs
+AreAllPlaced (a ∷ ms) [] (d ∷ ds) vs = vs ≡ []
+AreAllPlaced (a ∷ ms) (c ∷ cs) (d ∷ ds) [] = ⊥
+AreAllPlaced (a ∷ ms) (c ∷ cs) (d ∷ ds) (v ∷ vs) =
+    IsPlacedAs a c d v × AreAllPlaced ms cs ds vs
 
 -- the regions of a picture
 abbrev pub shown_area : Region → Area
