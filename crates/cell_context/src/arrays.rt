@@ -1,15 +1,16 @@
 //! Which placements of a cell reach into a window.
 
 ghost use Rattle.std.specs.List.{All};
-ghost use Rattle.cell_context.specs.Visits.{IsElementVisit, IsMet, IsFound};
-ghost use Rattle.std.specs.Prelude.{OnOk, IfOk, ◌≡◌, ◌<◌, ◌≤◌, ◌-◌, ◌^◌, ◌&&◌, ℕ, ℤ, pos, ◌+ℤ◌};
+ghost use Rattle.cell_context.specs.Visits.{IsElementVisit, IsMet, IsFound, IsVisited};
+ghost use Rattle.std.specs.Prelude.{OnOk, IfOk, IfSome, IsSomeAnd, true, ◌↔◌};
+ghost use Rattle.std.specs.Prelude.{◌≡◌, ◌<◌, ◌≤◌, ◌-◌, ◌^◌, ◌&&◌, ℕ, ℤ, pos, ◌+ℤ◌};
 ghost use Rattle.std.specs.Prelude.{◌-ℤ◌, ◌*ℤ◌, ◌≤ℤ◌, ◌<ℤ◌};
 ghost use Rattle.geo_base.specs.Near.{IsWithin, IsNearMotion};
 ghost use Rattle.geo_base.specs.Rects.{IsRect, has, moved_rect, IsInside};
 ghost use Rattle.geo_base.specs.Motions.{moved_square};
 ghost use Rattle.geo_base.specs.declared.shapes.Square.{Square};
 ghost use Rattle.cell_graph.specs.Linked.{IsFrame, IsRectWithin, motion_at};
-ghost use Rattle.cell_context.specs.Arrays.{IsNearArray, IsMeet, IsReach, IsNearReach, turn_of};
+ghost use Rattle.cell_context.specs.Arrays.{IsAlone, IsNearArray, IsMeet, IsReach, IsNearReach, turn_of};
 ghost use Rattle.cell_context.specs.Arrays.{shift_x, shift_y, MayMeet};
 ghost use Rattle.cell_context.specs.Steps.{Includes};
 
@@ -17,6 +18,13 @@ use crate::steps::{Steps, steps_between};
 use cell_graph::Place;
 use geo_base::{Motion, Rect};
 use std::alloc::{AllocError, Global};
+
+/// Whether a reference is of one placement.
+pub fn is_alone(place: &Place) -> bool
+    ensures { (result ≡ true) ↔ IsAlone place.now }
+{
+    place.rows == 1 && place.columns == 1
+}
 
 /// The common part of two rectangles.
 pub fn meet(a: &Rect, b: &Rect) -> Option<Rect>
@@ -294,6 +302,32 @@ fn rows_meeting(place: &Place, reach: &Reach) -> Steps
     both(across, up)
 }
 
+/// The visit of an element, where its image of the hull meets the window. Constant time.
+pub fn element_visit(
+    place: &Place,
+    row: u32,
+    column: u32,
+    hull: &Rect,
+    window: &Rect,
+) -> Option<Visit>
+    requires near { IsNearArray place.now }
+    requires row { row < place.now.rows }
+    requires column { column < place.now.columns }
+    requires hull { IsFrame hull.now }
+    requires window { IsRectWithin (2 ^ 39) window.now }
+    ensures is { IfSome result (IsElementVisit place.now hull.now window.now) }
+    ensures found { (q : Square) → IsMet place.now hull.now window.now row column q
+        → IsSomeAnd result (IsVisited place.now row column q) }
+{
+    let motion = motion_at(place, row, column);
+    let part = meet(&motion.rect(*hull), window)?;
+    Some(Visit {
+        cell: place.cell,
+        motion,
+        window: motion.inverse().rect(part),
+    })
+}
+
 // Adds the visit of an element, where its image of the hull meets the window.
 fn push_visit(
     out: &mut Vec<Visit>,
@@ -315,13 +349,7 @@ fn push_visit(
     ensures kept { OnOk result ((r c : ℕ) (q : Square) → IsFound place.now r c q out.old.items
         → IsFound place.now r c q out.new.items) }
 {
-    let motion = motion_at(place, row, column);
-    if let Some(part) = meet(&motion.rect(*hull), window) {
-        let visit = Visit {
-            cell: place.cell,
-            motion,
-            window: motion.inverse().rect(part),
-        };
+    if let Some(visit) = element_visit(place, row, column, hull, window) {
         out.push(visit)?;
     }
     Ok(())
@@ -344,6 +372,10 @@ pub fn place_visits(
         → IsFound place.now row column q v.items) }
 {
     let mut out = Vec::new(alloc);
+    if is_alone(place) {
+        push_visit(&mut out, place, 0, 0, hull, window)?;
+        return Ok(out);
+    }
     let reach = reach_of(place, hull, window);
     let rows = rows_meeting(place, &reach);
     for row in rows.from..rows.to {
