@@ -1,8 +1,8 @@
 //! Which placements of a cell reach into a window.
 
 ghost use Rattle.std.specs.List.{All};
-ghost use Rattle.cell_context.specs.Visits.{IsElementVisit, IsMet, IsFound, IsVisited};
-ghost use Rattle.std.specs.Prelude.{OnOk, IfOk, IfSome, IsSomeAnd, true, ◌↔◌};
+ghost use Rattle.cell_context.specs.Visits.{AddsVisits, IsElement, IsElementVisit, IsMet, IsFound};
+ghost use Rattle.std.specs.Prelude.{OnOk, IfOk, true, ◌↔◌};
 ghost use Rattle.std.specs.Prelude.{◌≡◌, ◌<◌, ◌≤◌, ◌-◌, ◌^◌, ◌&&◌, ℕ, ℤ, pos, ◌+ℤ◌};
 ghost use Rattle.std.specs.Prelude.{◌-ℤ◌, ◌*ℤ◌, ◌≤ℤ◌, ◌<ℤ◌};
 ghost use Rattle.geo_base.specs.Near.{IsWithin, IsNearMotion};
@@ -302,32 +302,6 @@ fn rows_meeting(place: &Place, reach: &Reach) -> Steps
     both(across, up)
 }
 
-/// The visit of an element, where its image of the hull meets the window. Constant time.
-pub fn element_visit(
-    place: &Place,
-    row: u32,
-    column: u32,
-    hull: &Rect,
-    window: &Rect,
-) -> Option<Visit>
-    requires near { IsNearArray place.now }
-    requires row { row < place.now.rows }
-    requires column { column < place.now.columns }
-    requires hull { IsFrame hull.now }
-    requires window { IsRectWithin (2 ^ 39) window.now }
-    ensures is { IfSome result (IsElementVisit place.now hull.now window.now) }
-    ensures found { (q : Square) → IsMet place.now hull.now window.now row column q
-        → IsSomeAnd result (IsVisited place.now row column q) }
-{
-    let motion = motion_at(place, row, column);
-    let part = meet(&motion.rect(*hull), window)?;
-    Some(Visit {
-        cell: place.cell,
-        motion,
-        window: motion.inverse().rect(part),
-    })
-}
-
 // Adds the visit of an element, where its image of the hull meets the window.
 fn push_visit(
     out: &mut Vec<Visit>,
@@ -342,16 +316,71 @@ fn push_visit(
     requires column { column < place.now.columns }
     requires hull { IsFrame hull.now }
     requires window { IsRectWithin (2 ^ 39) window.now }
-    requires each { All (IsElementVisit place.now hull.now window.now) out.old.items }
-    ensures each { OnOk result (All (IsElementVisit place.now hull.now window.now) out.new.items) }
-    ensures found { OnOk result ((q : Square) → IsMet place.now hull.now window.now row column q
-        → IsFound place.now row column q out.new.items) }
-    ensures kept { OnOk result ((r c : ℕ) (q : Square) → IsFound place.now r c q out.old.items
-        → IsFound place.now r c q out.new.items) }
+    ensures { OnOk result (AddsVisits place.now hull.now window.now
+        (λ i j. (i ≡ row) × (j ≡ column)) out.old.items out.new.items) }
 {
-    if let Some(visit) = element_visit(place, row, column, hull, window) {
+    let motion = motion_at(place, row, column);
+    if let Some(part) = meet(&motion.rect(*hull), window) {
+        let visit = Visit {
+            cell: place.cell,
+            motion,
+            window: motion.inverse().rect(part),
+        };
         out.push(visit)?;
     }
+    Ok(())
+}
+
+// The visits of an array, found by its rows and columns.
+fn array_visits(
+    alloc: Global,
+    place: &Place,
+    hull: &Rect,
+    window: &Rect,
+) -> Result<Vec<Visit>, AllocError>
+    requires near { IsNearArray place.now }
+    requires some { 0 < place.now.columns }
+    requires hull { IsFrame hull.now }
+    requires window { IsRectWithin (2 ^ 39) window.now }
+    ensures each { IfOk result (λ v. All (IsElementVisit place.now hull.now window.now) v.items) }
+    ensures found { IfOk result (λ v. (row column : ℕ) (q : Square) → row < place.now.rows
+        → column < place.now.columns → IsMet place.now hull.now window.now row column q
+        → IsFound place.now row column q v.items) }
+{
+    let mut out = Vec::new(alloc);
+    let reach = reach_of(place, hull, window);
+    let rows = rows_meeting(place, &reach);
+    for row in rows.from..rows.to {
+        let columns = columns_meeting(place, &reach, row);
+        for column in columns.from..columns.to {
+            push_visit(&mut out, place, row, column, hull, window)?;
+        }
+    }
+    Ok(out)
+}
+
+/// Adds the visits of the elements of an array whose images of a hull meet a window. For a
+/// reference of one placement it is one look, and takes no list.
+pub fn push_elements(
+    alloc: Global,
+    out: &mut Vec<Visit>,
+    place: &Place,
+    hull: &Rect,
+    window: &Rect,
+) -> Result<(), AllocError>
+    requires near { IsNearArray place.now }
+    requires some { 0 < place.now.columns }
+    requires hull { IsFrame hull.now }
+    requires window { IsRectWithin (2 ^ 39) window.now }
+    ensures { OnOk result (AddsVisits place.now hull.now window.now (IsElement place.now)
+        out.old.items out.new.items) }
+{
+    if is_alone(place) {
+        push_visit(out, place, 0, 0, hull, window)?;
+        return Ok(());
+    }
+    let more = array_visits(alloc, place, hull, window)?;
+    out.extend_from_slice(&more)?;
     Ok(())
 }
 
@@ -372,17 +401,6 @@ pub fn place_visits(
         → IsFound place.now row column q v.items) }
 {
     let mut out = Vec::new(alloc);
-    if is_alone(place) {
-        push_visit(&mut out, place, 0, 0, hull, window)?;
-        return Ok(out);
-    }
-    let reach = reach_of(place, hull, window);
-    let rows = rows_meeting(place, &reach);
-    for row in rows.from..rows.to {
-        let columns = columns_meeting(place, &reach, row);
-        for column in columns.from..columns.to {
-            push_visit(&mut out, place, row, column, hull, window)?;
-        }
-    }
+    push_elements(alloc, &mut out, place, hull, window)?;
     Ok(out)
 }

@@ -83,7 +83,10 @@ fn mixed(number: u64, part: u64) -> u64 {
 fn way_of(cell_or_job: u32, motion: &Motion) -> u64 {
     let turn = u64::from(turn_number(motion.turn));
     let turned = mixed(mixed(1, u64::from(cell_or_job)), turn);
-    mixed(mixed(turned, motion.dx.cast_unsigned()), motion.dy.cast_unsigned())
+    mixed(
+        mixed(turned, motion.dx.cast_unsigned()),
+        motion.dy.cast_unsigned(),
+    )
 }
 
 // Whether a neighbour is of the cell and lies so.
