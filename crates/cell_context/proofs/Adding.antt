@@ -1,5 +1,5 @@
 -- Visits that are added to others.
-use Rattle.std.proofs.Common.{◌≡◌, ℕ, ◌<◌, List, [], ◌∷◌, ◌++◌, inl, sym, subst, append-nil, arith}
+use Rattle.std.proofs.Common.{◌≡◌, ℕ, List, [], ◌∷◌, ◌++◌, inl, sym, subst, append-nil, arith}
 use Rattle.std.specs.List.{All}
 use Rattle.std.proofs.lemmas.List.Elements.{All-append, All-push}
 use Rattle.geo_base.specs.declared.shapes.Rect.{Rect}
@@ -7,7 +7,7 @@ use Rattle.geo_base.specs.declared.shapes.Square.{Square}
 use Rattle.cell_graph.specs.declared.cells.Place.{Place}
 use Rattle.cell_context.specs.declared.arrays.Visit.{Visit}
 use Rattle.cell_context.specs.Arrays.{IsAlone}
-use Rattle.cell_context.specs.Visits.{AddsVisits, IsElement, IsElementVisit, IsFound, IsMet, IsVisited}
+use Rattle.cell_context.specs.Visits.{AddsVisits, IsElementOf, IsElementVisit, IsFound, IsMet, IsVisited}
 use Rattle.cell_context.proofs.Visiting.{some_behind, some_more}
 
 pub all_none : {A : Type 0} (P : A → Type 0) → All P []
@@ -26,7 +26,7 @@ pub adds_found : (p : Place) (hull w : Rect) (meant : ℕ → ℕ → Type 0) (o
 adds_found p hull w meant old new row column q adds is met = subst (IsFound p row column q) (sym adds.behind) (some_behind (IsVisited p row column q) old adds.more (adds.found row column q is met))
 
 -- a reference of one placement has one element
-pub only_element : (p : Place) (row column : ℕ) → IsAlone p → IsElement p row column → (row ≡ 0) × (column ≡ 0)
+pub only_element : (p : Place) (row column : ℕ) → IsAlone p → IsElementOf p row column → (row ≡ 0) × (column ≡ 0)
 only_element p row column (one, other) (low, left) = ((omega (arith, one, low)), (omega (arith, other, left)))
 
 -- the visit of one element
@@ -51,7 +51,7 @@ adds_none p hull w row column old none = record {
 }
 
 -- the visit of the one element is that of all
-pub adds_alone : (p : Place) (hull w : Rect) (old new : List Visit) → IsAlone p → AddsVisits p hull w (λ i j. (i ≡ 0) × (j ≡ 0)) old new → AddsVisits p hull w (IsElement p) old new
+pub adds_alone : (p : Place) (hull w : Rect) (old new : List Visit) → IsAlone p → AddsVisits p hull w (λ i j. (i ≡ 0) × (j ≡ 0)) old new → AddsVisits p hull w (IsElementOf p) old new
 adds_alone p hull w old new alone adds = record {
   more = adds.more;
   behind = adds.behind;

@@ -35,8 +35,8 @@ pub record IsVisited (p : Place) (row column : ℕ) (q : Square) (v : Visit) : T
 abbrev pub IsFound : Place → ℕ → ℕ → Square → List Visit → Type 0
 IsFound p row column q visits = Some_of (IsVisited p row column q) visits
 
-abbrev pub IsElement : Place → ℕ → ℕ → Type 0
-IsElement p row column = (row < p.rows) × (column < p.columns)
+abbrev pub IsElementOf : Place → ℕ → ℕ → Type 0
+IsElementOf p row column = (row < p.rows) × (column < p.columns)
 
 -- visits of elements were added, among them those of all that are meant
 pub record AddsVisits (p : Place) (hull window : Rect) (meant : ℕ → ℕ → Type 0)

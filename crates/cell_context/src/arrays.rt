@@ -1,7 +1,7 @@
 //! Which placements of a cell reach into a window.
 
 ghost use Rattle.std.specs.List.{All};
-ghost use Rattle.cell_context.specs.Visits.{AddsVisits, IsElement, IsElementVisit, IsMet, IsFound};
+ghost use Rattle.cell_context.specs.Visits.{AddsVisits, IsElementOf, IsElementVisit, IsMet, IsFound};
 ghost use Rattle.std.specs.Prelude.{OnOk, IfOk, true, ◌↔◌};
 ghost use Rattle.std.specs.Prelude.{◌≡◌, ◌<◌, ◌≤◌, ◌-◌, ◌^◌, ◌&&◌, ℕ, ℤ, pos, ◌+ℤ◌};
 ghost use Rattle.std.specs.Prelude.{◌-ℤ◌, ◌*ℤ◌, ◌≤ℤ◌, ◌<ℤ◌};
@@ -372,7 +372,7 @@ pub fn push_elements(
     requires some { 0 < place.now.columns }
     requires hull { IsFrame hull.now }
     requires window { IsRectWithin (2 ^ 39) window.now }
-    ensures { OnOk result (AddsVisits place.now hull.now window.now (IsElement place.now)
+    ensures { OnOk result (AddsVisits place.now hull.now window.now (IsElementOf place.now)
         out.old.items out.new.items) }
 {
     if is_alone(place) {

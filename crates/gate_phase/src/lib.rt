@@ -14,6 +14,7 @@ mod copies;
 mod device;
 mod entries;
 mod frame;
+mod hollow;
 mod indexes;
 mod judged;
 mod kept;

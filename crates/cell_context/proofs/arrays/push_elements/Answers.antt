@@ -1,4 +1,4 @@
-use Rattle.std.proofs.Common.{◌≡◌, ◌++◌, ◌∙◌, ap, arith, refl}
+use Rattle.std.proofs.Common.{◌++◌, ◌∙◌, ap, arith}
 use Rattle.cell_context.proofs.Adding.{adds_alone}
 use Rattle.cell_context.proofs.arrays.push_elements.Goals as goal
 

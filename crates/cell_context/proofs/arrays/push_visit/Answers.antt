@@ -1,5 +1,5 @@
 use Rattle.std.proofs.Common.{refl, arith, ◌^◌}
-use Rattle.cell_context.specs.Visits.{IsElementVisit, IsVisited}
+use Rattle.cell_context.specs.Visits.{IsElementVisit}
 use Rattle.cell_context.proofs.Adding.{adds_none, adds_one}
 use Rattle.cell_context.proofs.Visiting.{near_rect, within_inside, moved_back, part_of_hull, found_met, none_met, wider_rect}
 use Rattle.cell_context.proofs.arrays.push_visit.Goals as goal
