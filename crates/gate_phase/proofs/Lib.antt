@@ -6,7 +6,6 @@ pub mod Freeing
 pub mod Gathering
 pub mod Grounding
 pub mod Holding
-pub mod Hollowing
 pub mod Indexing
 pub mod Judging
 pub mod Keeping

@@ -32,7 +32,7 @@ use Rattle.gate_phase.proofs.Marking.{count_behind}
 pub locals_of : (d : Design) (r : Rules) (layers : LayersOf) (i : ℕ) → AreLayersOf d r layers → i < length r.names → rules.IsSound r → HasLocals d layers i (get_or (formulas r.names) i Empty)
 locals_of d r layers i right lt ruled cell reached =
     let l = layer_at d r layers.table cell i (get_or (formulas r.names) i Empty) right.table reached (slice_get-get_or (formulas r.names) i Empty (let n = count_behind [] r.names in omega arith)) in
-    (l.0, l.1, l.2, record { is = sym (name_reach r layers.reaches i right.reaches); most = name_most r i ruled }, right.hollow i)
+    (l.0, l.1, l.2, record { is = sym (name_reach r layers.reaches i right.reaches); most = name_most r i ruled })
 
 -- a reached cell is one of the design's
 pub reached_cell : (d : Linked) (cell : ℕ) → IsSound d → IsReached (plain d) cell → cell < length d.cells

@@ -1,5 +1,5 @@
 -- What cells hold themselves, looked into by windows.
-use Rattle.std.specs.Prelude.{◌≡◌, ℕ, Bool, true, List, [], Option, Some, None, get_or, map}
+use Rattle.std.specs.Prelude.{◌≡◌, ℕ, true, List, [], Option, Some, None, get_or, map}
 use Rattle.std.specs.Global.{Vec}
 use Rattle.geo_base.specs.Rects.{has}
 use Rattle.geo_base.specs.declared.shapes.Rect.{Rect}
@@ -10,28 +10,20 @@ use Rattle.rule_text.specs.Reaches.{reaches}
 use Rattle.rule_text.specs.Rules.{Rules}
 use Rattle.deep_tables.specs.Layers.{AreLayers, layer_of}
 use Rattle.deep_tables.specs.declared.layers.CellLayers.{CellLayers}
-use Rattle.net_phase.specs.Bare.{mark_lists}
-use Rattle.gate_phase.specs.Hollow.{AreHollow}
 use Rattle.gate_phase.specs.declared.indexes.IndexedLayers.TheInside.{Inside}
 
--- what cells hold themselves, how far each name reaches, and marks of hollow cells for each name
+-- what cells hold themselves, and how far each name reaches
 pub record LayersOf : Type 0 where
   pub table : List (Option CellLayers)
   pub reaches : List ℕ
-  pub hollow : List (List Bool)
 
 abbrev pub layers_of : Inside → LayersOf
-layers_of a = record {
-  table = a.layers.now;
-  reaches = a.reaches.items;
-  hollow = mark_lists a.hollow.items;
-}
+layers_of a = record { table = a.layers.now; reaches = a.reaches.items }
 
 -- right for the rules
 pub record AreLayersOf (d : Design) (r : Rules) (x : LayersOf) : Type 0 where
   pub table : AreLayers d r x.table
   pub reaches : x.reaches ≡ reaches r.names
-  pub hollow : AreHollow d r x.hollow
 
 -- rectangles of a list, among them all that share a square with the window
 pub record AreMetOf (rects : List Rect) (window : Rect) (met : List Rect) : Type 0 where

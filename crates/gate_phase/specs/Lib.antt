@@ -1,7 +1,6 @@
 pub mod Devices
 pub mod Below
 pub mod Close
-pub mod Hollow
 pub mod Indexes
 pub mod Judged
 pub mod Kept

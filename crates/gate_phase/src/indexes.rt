@@ -1,6 +1,6 @@
 //! What cells hold themselves, looked into by windows.
-ghost use Rattle.std.specs.Prelude.{◌≡◌, ◌<◌, ◌^◌, ℕ, List, [], Some, false, get_or, length};
-ghost use Rattle.std.specs.Prelude.{max, IfOk, IfSome, IsSome};
+ghost use Rattle.std.specs.Prelude.{◌≡◌, ◌<◌, ◌^◌, ℕ, List, [], Some, get_or, length, max};
+ghost use Rattle.std.specs.Prelude.{IfOk, IfSome, IsSome};
 ghost use Rattle.geo_base.specs.declared.shapes.Rect.{Rect};
 ghost use Rattle.cell_graph.specs.Linked.{plain};
 ghost use Rattle.flat_layout.specs.Layout.{IsReached};
@@ -9,12 +9,10 @@ ghost use Rattle.deep_tables.specs.Layers.{AreLayers, layer_of};
 ghost use Rattle.rule_text.specs.Reaches.{reaches};
 ghost use Rattle.rule_text.specs.Sound.{IsSound};
 ghost use Rattle.gate_phase.specs.Devices.{device_reach, layer_reach, region_reach};
-ghost use Rattle.gate_phase.specs.Hollow.{AreHollow};
 ghost use Rattle.gate_phase.specs.Indexes.{AreAllIndexes, AreIndexes, AreMetOf};
 ghost use Rattle.gate_phase.specs.Indexes.{index_in, index_lists};
 
 use crate::device::{Device, Region};
-use crate::hollow::{all_hollow, is_marked};
 use crate::met::{found_rects, met_rects};
 use crate::reads::device_names;
 use cell_graph::Design;
@@ -26,15 +24,13 @@ use std::alloc::{AllocError, Global};
 use std::marker::Model;
 use tile_index::TileIndex;
 
-/// The squares that cells hold themselves, with indexes of the layers of device rules and marks of
-/// the cells that are hollow for one, and how far each name reaches. Contracts see all but the
-/// indexes.
+/// The squares that cells hold themselves, with indexes of the layers of device rules, and how far
+/// each name reaches. Contracts see the table of layers and the reaches.
 #[derive(Drop)]
 pub struct IndexedLayers<'a> {
     layers: &'a Layers,
     indexes: Vec<Vec<Option<TileIndex>>>,
     reaches: Vec<u32>,
-    hollow: Vec<Vec<bool>>,
 }
 
 impl<'a> Model for IndexedLayers<'a> {
@@ -136,9 +132,8 @@ fn index_at<'b>(
 }
 
 impl<'a> IndexedLayers<'a> {
-    /// The table with its indexes and marks. In O(n log n) for n rectangles of the layers of device
-    /// rules, linear in the names for each reached cell, and for each layer of a device rule at
-    /// most linear in the references. 2^32 rectangles of a cell on a layer, or
+    /// The table with its indexes. In O(n log n) for n rectangles of the layers of device rules,
+    /// and linear in the names for each reached cell. 2^32 rectangles of a cell on a layer, or
     /// more, are refused.
     pub fn new(
         alloc: Global,
@@ -151,29 +146,14 @@ impl<'a> IndexedLayers<'a> {
         requires layers { AreLayers (plain design.now) (rules_seen rules.now) layers.now }
         ensures table { IfOk result (λ x. x.table ≡ layers.now) }
         ensures reaches { IfOk result (λ x. x.reaches ≡ reaches rules.now.names.items) }
-        ensures hollow { IfOk result (λ x. AreHollow (plain design.now) (rules_seen rules.now)
-            x.hollow) }
     {
         let indexes = all_indexes(alloc, design, rules, layers)?;
         let reaches = reaches(alloc, &rules.names)?;
-        let hollow = all_hollow(alloc, design, rules, layers)?;
         Ok(IndexedLayers {
             layers,
             indexes,
             reaches,
-            hollow,
         })
-    }
-
-    /// Whether it is known that no cell below one holds a square of a name, of a device rule's
-    /// layer. Constant time.
-    pub fn is_hollow(&self, cell: u32, name: u32) -> bool
-        ensures { result ≡ get_or (get_or self.now.hollow name []) cell false }
-    {
-        match self.hollow.get(name as usize) {
-            None => false,
-            Some(marks) => is_marked(marks, cell),
-        }
     }
 
     /// How far a name reaches, in squares; 0 past the last name.

@@ -19,8 +19,8 @@ use std::alloc::{AllocError, Global};
 /// Rectangles of what a cell keeps of a name, among them all that share a square with the window.
 /// Rectangles aren't cut to the window: a long one costs as a short one. On a layer of a device
 /// rule indexes find them: what lies far from the window costs nothing. Cells whose hulls, grown by
-/// the name's reach, miss the window aren't walked, nor those below which nothing of the name is
-/// held, and of an array only the elements that reach into it.
+/// the name's reach, miss the window aren't walked, and of an array only the elements that reach
+/// into it.
 pub fn kept_rects(
     alloc: Global,
     design: &Design,
@@ -40,9 +40,6 @@ pub fn kept_rects(
     design.sound();
     let mut out = layers.met(alloc, cell, name, window)?;
     let frame = plane();
-    if layers.is_hollow(cell, name) {
-        return Ok(out);
-    }
     let list = visits(alloc, design, cell, window, None, layers.reach(name))?;
     for visit in &list {
         let below = kept_rects(alloc, design, layers, visit.cell, name, &visit.window)?;

@@ -14,7 +14,6 @@ mod copies;
 mod device;
 mod entries;
 mod frame;
-mod hollow;
 mod indexes;
 mod judged;
 mod kept;

@@ -7,7 +7,6 @@ use Rattle.deep_tables.specs.Layers.{AreLayers}
 use Rattle.deep_tables.specs.Nets.{AreCellNets}
 use Rattle.flat_layout.specs.Layout.{IsReached}
 use Rattle.gate_phase.proofs.work.DeviceWork.new.Goals as goal
-use Rattle.gate_phase.specs.Hollow.{AreHollow}
 use Rattle.gate_phase.specs.Judged.{rule_grounds}
 use Rattle.net_phase.proofs.Knowing.{right_known}
 use Rattle.net_phase.specs.Reading.{nets_of}
@@ -30,8 +29,6 @@ invariant_of-result c =
       zones = c.requires.zones;
       layers = record {
         table = subst (AreLayers (plain d) r) (sym c.in_ok-indexed.ensures.table) c.requires.layers;
-        hollow = subst (λ (x : RuleSet). AreHollow (plain d) (rules_seen x) c.in_ok-indexed.indexed.hollow) c.rules-rules.ensures
-            (subst (λ (x : Linked). AreHollow (plain x) (rules_seen c.rules-rules.result.now) c.in_ok-indexed.indexed.hollow) c.design-design.ensures c.in_ok-indexed.ensures.hollow);
         reaches = c.in_ok-indexed.ensures.reaches ∙ ap (λ (x : RuleSet). reaches x.names.items) c.rules-rules.ensures;
       };
       grounds = c.in_ok-grounds.ensures ∙ ap (λ (x : RuleSet). rule_grounds (rules_seen x)) c.rules-rules.ensures;
