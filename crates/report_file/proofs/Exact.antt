@@ -1,5 +1,5 @@
 -- A mismatch without a flat correspondence.
-use Rattle.std.proofs.Common.{◌≡◌, inl, inr, ℕ, ◌+◌, ◌==◌, ◌&&◌, ◌||◌, Bool, true, false, List, [], ◌∷◌, length, Option, Some, sym, ap, subst, ◌∙◌, arith, true≢false}
+use Rattle.std.proofs.Common.{◌≡◌, inl, inr, ℕ, ◌+◌, ◌==◌, ◌&&◌, ◌||◌, Bool, true, false, List, [], ◌∷◌, length, Option, Some, refl, sym, ap, subst, ◌∙◌, arith, true≢false}
 use Rattle.std.specs.List.{Any, list_any}
 use Rattle.align_laws.specs.Cut.{Alignment}
 use Rattle.align_laws.specs.Partners.{AlignedSidesLaw, IsAlignedPair, LeftOrderLaw}
