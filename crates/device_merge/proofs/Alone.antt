@@ -1,13 +1,10 @@
 -- A netlist without alike devices is its merged one.
-use Rattle.std.proofs.Common.{◌≡◌, ◌⊎◌, inl, inr, ◌<◌, ◌≤◌, ◌+◌, ℕ, suc, Bool, true, false, nat_lt, cond, List, [], ◌∷◌, ◌++◌, map, length, refl, ap, ap₂, ◌∙◌, sym, subst, arith}
-use Rattle.base_laws.proofs.Lists.{map_count}
+use Rattle.std.proofs.Common.{◌≡◌, ◌⊎◌, inl, inr, ◌<◌, ◌≤◌, ◌+◌, ℕ, suc, Bool, true, false, nat_lt, cond, List, [], ◌∷◌, ◌++◌, map, length, refl, ap, ap₂, ◌∙◌, sym, subst, arith, append_assoc}
 use Rattle.std.proofs.lemmas.Bool.{or_parts}
-use Rattle.std.proofs.lemmas.List.{append-assoc}
-use Rattle.std.proofs.lemmas.List.Sums.{prefix_len-le-length}
 use Rattle.std.specs.List.{list_any}
 use Rattle.plain_netlist.specs.Netlist.{Circuit, DeviceRow, Netlist}
 use Rattle.merge_laws.specs.Grouped.{Group, Placed, grouped, groups, is_alike, merged_circuit, merged_netlist, merged_row, with_device}
-use Rattle.device_merge.specs.Keys.{lone, place_of}
+use Rattle.device_merge.specs.Keys.{lone}
 use Rattle.device_merge.specs.Merged.{has_alike, is_shorter}
 use Rattle.device_merge.specs.Merging.{placed}
 use Rattle.device_merge.proofs.Joined.{begins, begun_rows, joined}
@@ -54,7 +51,7 @@ each_alone gs place (row ∷ rows) many =
     at (inl e) low rec = let z : ⊥ = omega (arith, e, low, many) in absurd z
     at (inr e) low rec =
         let l = ap (λ (hs : List Group). length hs) e ∙ long_behind gs (lone place row) in
-        rec (omega (arith, l, many)) ∙ ap (λ (hs : List Group). map merged_row hs ++ rows) e ∙ ap (λ (rs : List DeviceRow). rs ++ rows) (begun_rows gs place row) ∙ append-assoc (map merged_row gs) (row ∷ []) rows
+        rec (omega (arith, l, many)) ∙ ap (λ (hs : List Group). map merged_row hs ++ rows) e ∙ ap (λ (rs : List DeviceRow). rs ++ rows) (begun_rows gs place row) ∙ append_assoc (map merged_row gs) (row ∷ []) rows
 
 same_devices : (rows : List DeviceRow) → nat_lt (length (groups rows)) (length rows) ≡ false → map merged_row (groups rows) ≡ rows
 same_devices rows h = each_alone [] 0 rows (many (length (groups rows)) (length rows) h)

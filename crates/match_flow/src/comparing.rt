@@ -176,8 +176,6 @@ pub fn compare<R: Threads + Wait + Sync, G: Gate + Sync>(
         settings.now.same.now (plain_netlist c.left) (plain_netlist c.right))) }
     ensures comparable { IfOk result (λ found. IfSome found (λ c.
         AreComparable (plain_netlist c.left) (plain_netlist c.right))) }
-    ensures narrow { IfOk result (λ found. IfSome found (λ c. settings.now.merges_again ≡ true
-        → IsNarrow (plain_netlist c.left) × IsNarrow (plain_netlist c.right))) }
     ensures answers { IfOk result (λ found. IfSome found (λ c. IsAnswered
         settings.now.merges_again settings.now.limit settings.now.same_pins
         (plain_netlist c.left) (plain_netlist c.right) c.merged_again
