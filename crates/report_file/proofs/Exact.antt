@@ -24,8 +24,8 @@ use Rattle.plain_netlist.proofs.Alike.{through}
 use Rattle.plain_netlist.specs.FlatLaws.{Passes}
 use Rattle.plain_netlist.specs.Flats.{expanded, Through}
 use Rattle.plain_netlist.specs.Netlist.{Netlist, Slot}
-use Rattle.report_file.proofs.AsAnswered.{answer_count, never_again}
-use Rattle.report_file.proofs.Combined.{as_it_is, as_merged, combined_order, compared_alignable, compared_order}
+use Rattle.report_file.proofs.AsAnswered.{answer_count}
+use Rattle.report_file.proofs.Combined.{as_it_is, as_merged, combined_order, compared_alignable, compared_order, never_again}
 use Rattle.report_file.proofs.Compared.{found, ordered}
 use Rattle.report_file.proofs.Nowhere.{again_nowhere, once_nowhere, tops_apart}
 use Rattle.report_file.proofs.OneAnswer.{made_again}

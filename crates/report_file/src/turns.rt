@@ -41,8 +41,8 @@ pub struct Turns {
 fn merges_again(rules: &RuleSet) -> bool
     ensures { result ≡ merges_again (rules_seen rules.now) }
 {
-    let is_flattened = rules.flat_layouts.is_empty() && rules.flat_schematics.is_empty();
-    rules.combine && (rules.flattens_unmatched || !is_flattened)
+    let names_none = rules.flat_layouts.is_empty() && rules.flat_schematics.is_empty();
+    rules.combine && (rules.flattens_unmatched || !names_none)
 }
 
 // Layout and schematic compared by the rules, in the form that a report has; partners are as these
