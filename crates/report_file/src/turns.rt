@@ -159,6 +159,7 @@ fn push_turn(
     found: &Compared,
     goes: &[bool],
 ) -> Result<(), AllocError>
+    requires { length goes.now ≡ length found.now.answers }
     ensures { OnOk result (lines.new.items ≡ lines.old.items
         ++ (again_line found.now.merged_again ++ apart_texts (lefts_of found.now)
         (rights_of found.now) 0 goes.now (answers_of found.now))) }
