@@ -94,3 +94,12 @@ answered_merged merges limit same_pins left right again answers set h some = go 
         let none = or_parts (has_alike left) (has_alike right) is in
         let one = subst (λ (n : Netlist). AreAllAnswers n right (asked_of left limit same_pins) answers) (sym (unmerged left none.0)) last in
         subst (λ (n : Netlist). AreAllAnswers (merged_netlist left) n (asked_of left limit same_pins) answers) (sym (unmerged right none.1)) one
+
+-- whether circuits are merged once more, as it is found out one step after the other
+pub not_asked : (m l h : Bool) → (m && l) ≡ false → (m && l && h) ≡ false
+not_asked true l h e = ap (λ (b : Bool). b && h) e
+not_asked false l h e = refl
+
+pub asked : (m l h again : Bool) → (m && l) ≡ true → h ≡ again → (m && l && h) ≡ again
+asked true l h again e f = ap (λ (b : Bool). b && h) e ∙ f
+asked false l h again e f = absurd (true≢false (sym e))

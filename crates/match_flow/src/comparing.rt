@@ -1,6 +1,6 @@
 //! The comparison of a layout's netlist with a schematic.
 ghost use Rattle.std.specs.Prelude.{◌≡◌, ◌&&◌, ◌||◌, ◌↔◌, ◌<◌, IfOk, IfSome, IsNone};
-ghost use Rattle.std.specs.Prelude.{length, map, true};
+ghost use Rattle.std.specs.Prelude.{is_some, length, map, true};
 ghost use Rattle.std.specs.List.{list_any};
 ghost use Rattle.device_merge.specs.Merged.{IsNarrow, has_alike};
 ghost use Rattle.match_flow.specs.Again.{IsAnswered};

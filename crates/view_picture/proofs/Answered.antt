@@ -1,4 +1,4 @@
--- What is drawn of circuits that are answered ms others, one after the other.
+-- What is drawn of circuits that are answered as others, one after the other.
 use Rattle.std.proofs.Common.{◌≡◌, List, [], ◌∷◌, ◌++◌, refl, subst, sym, append_assoc, append-nil}
 use Rattle.plain_netlist.specs.Netlist.{Circuit}
 use Rattle.view_netlist.specs.Drawing.{Drawn}

@@ -68,7 +68,8 @@ pub fn as_answered(
     match compared {
         Some(found) => {
             if found.merged_again {
-                return merged(alloc, found, picture);
+                let again = merged(alloc, found, picture)?;
+                return Ok(again);
             }
             Ok(Answered {
                 compared: Some(found),

@@ -4,8 +4,8 @@ use Rattle.match_flow.proofs.comparing.answer_merged.Goals as goal
 use Rattle.net_model.specs.Rows.{plain_netlist}
 use Rattle.match_types.specs.Plain.{plain_answer}
 
-pub answer_pairs-requires : goal.answer_pairs-requires
-answer_pairs-requires g c = comparable_as (plain_netlist c.args.left.now) (plain_netlist c.args.right.now) (plain_netlist c.in_ok-near.near.netlist) (plain_netlist c.in_ok-far.far.netlist) c.in_ok-near.ensures.merged c.in_ok-far.ensures.merged c.requires.sides
+pub answer_pairs-requires-clause-sides : goal.answer_pairs-requires-clause-sides
+answer_pairs-requires-clause-sides g c = comparable_as (plain_netlist c.args.left.now) (plain_netlist c.args.right.now) (plain_netlist c.in_ok-near.near.netlist) (plain_netlist c.in_ok-far.far.netlist) c.in_ok-near.ensures.merged c.in_ok-far.ensures.merged c.requires.sides
 
 pub returns-clause-answers : goal.returns-clause-answers
 returns-clause-answers g c =

@@ -10,4 +10,4 @@ returns-in_default-clause-none g c =
     ((λ e. none.0 (none_is c.in_ok-aligned.field-0 c.in_default.not-Some)), (λ h. refl))
 
 pub answer-requires-clause-narrow : goal.answer-requires-clause-narrow
-answer-requires-clause-narrow g c = λ merges. both_narrow (plain_netlist c.args.layout.now) (plain_netlist c.args.schematic.now) c.args.top c.args.settings.now.same.now (plain_netlist c.in-Some.aligned.left) (plain_netlist c.in-Some.aligned.right) _ (c.requires.narrow merges)
+answer-requires-clause-narrow g c κs within = λ merges. both_narrow (plain_netlist c.args.layout.now) (plain_netlist c.args.schematic.now) c.args.top c.args.settings.now.same.now (plain_netlist c.in-Some.aligned.left) (plain_netlist c.in-Some.aligned.right) _ (c.requires.narrow merges)
