@@ -12,8 +12,6 @@ use Rattle.merge_laws.specs.Grouped.{groups, merged_netlist, merged_row}
 use Rattle.plain_netlist.specs.Netlist.{Circuit, InOneNet, IsCircuit, Netlist, Slot}
 use Rattle.plain_netlist.specs.Sound.{IsGood}
 use Rattle.report_file.proofs.Compared.{HaveOrder}
-use Rattle.report_file.specs.Combined.{flattens, merges_again}
-use Rattle.rule_text.specs.Rules.{Rules}
 
 -- a circuit, as it is answered
 abbrev pub circuit_answered : Bool → Circuit → Circuit
@@ -56,7 +54,3 @@ answered_long false nl = refl
 -- and as many answers
 pub answer_count : (merges : Bool) (limit : ℕ) (same_pins : Bool) (left right : Netlist) (again : Bool) (answers : List Answer) → IsAnswered merges limit same_pins left right again answers → length answers ≡ length left.circuits
 answer_count merges limit same_pins left right again answers h = h.at_last.count ∙ answered_long again left
-
--- rules that don't combine devices make none one once more
-pub never_again : (r : Rules) → r.combine ≡ false → merges_again r ≡ false
-never_again r e = ap (λ (b : Bool). b && flattens r) e

@@ -1,5 +1,5 @@
 -- A mismatch without a flat correspondence.
-use Rattle.std.proofs.Common.{◌≡◌, inl, inr, ℕ, ◌+◌, ◌==◌, ◌&&◌, ◌||◌, Bool, true, false, List, [], ◌∷◌, length, Option, Some, sym, ap, subst, ◌∙◌, arith, true≢false}
+use Rattle.std.proofs.Common.{◌≡◌, inl, inr, ℕ, ◌+◌, ◌==◌, ◌&&◌, ◌||◌, Bool, true, false, List, [], ◌∷◌, length, Option, Some, refl, sym, ap, subst, ◌∙◌, arith, true≢false}
 use Rattle.std.specs.List.{Any, list_any}
 use Rattle.align_laws.specs.Cut.{Alignment}
 use Rattle.align_laws.specs.Partners.{AlignedSidesLaw, IsAlignedPair, LeftOrderLaw}
@@ -24,8 +24,8 @@ use Rattle.plain_netlist.proofs.Alike.{through}
 use Rattle.plain_netlist.specs.FlatLaws.{Passes}
 use Rattle.plain_netlist.specs.Flats.{expanded, Through}
 use Rattle.plain_netlist.specs.Netlist.{Netlist, Slot}
-use Rattle.report_file.proofs.AsAnswered.{answer_count, never_again}
-use Rattle.report_file.proofs.Combined.{as_it_is, as_merged, combined_order, compared_alignable, compared_order}
+use Rattle.report_file.proofs.AsAnswered.{answer_count}
+use Rattle.report_file.proofs.Combined.{as_it_is, as_merged, combined_order, compared_alignable, compared_order, never_again}
 use Rattle.report_file.proofs.Compared.{found, ordered}
 use Rattle.report_file.proofs.Nowhere.{again_nowhere, once_nowhere, tops_apart}
 use Rattle.report_file.proofs.OneAnswer.{made_again}

@@ -80,7 +80,7 @@ none_goes f h =
 
 -- where all pairs match, no device is made one once more, whatever the rules say
 none_again : (answers : List Answer) → All IsMatch answers → list_any is_difference answers ≡ false
-none_again answers h = list_any_none is_difference answers (λ k a low e. no_difference a (h k a low e))
+none_again answers h = list_any_none is_difference answers (λ k a low. no_difference (slice_index_or answers k a) (h k a low))
 
 answered_so : (r : Rules) (left right : Netlist) (again : Bool) (answers : List Answer) → All IsMatch answers → IsAnswered (merges_again r) r.max_guesses r.tells_pins left right again answers
     → IsAnswered (merges_again (flattening r)) r.max_guesses r.tells_pins left right again answers

@@ -1,5 +1,5 @@
 -- A reported match of the flat layout with the flattened schematic.
-use Rattle.std.proofs.Common.{◌≡◌, ℕ, ◌+◌, ◌==◌, ◌&&◌, Bool, true, false, List, [], Option, Some, None, length, refl, subst, ap, ap₂, ◌∙◌, true≢false}
+use Rattle.std.proofs.Common.{◌≡◌, ℕ, ◌+◌, ◌==◌, ◌&&◌, ◌||◌, Bool, true, false, List, [], Option, Some, None, length, refl, subst, ap, ap₂, ◌∙◌, true≢false}
 use Rattle.std.specs.List.{All, list_any}
 use Rattle.std.proofs.lemmas.Bool.Decides.{Decides-eqb}
 use Rattle.std.proofs.lemmas.List.{nil_from_length}
@@ -37,8 +37,7 @@ use Rattle.plain_netlist.proofs.Alike.{reversed, through}
 use Rattle.plain_netlist.proofs.Heights.{good as good_law}
 use Rattle.plain_netlist.specs.Flats.{Corresponds, Flat, expanded, Reversed, Through}
 use Rattle.plain_netlist.specs.Netlist.{Netlist, Slot, slot}
-use Rattle.report_file.proofs.AsAnswered.{never_again}
-use Rattle.report_file.proofs.Combined.{as_it_is, as_merged, compared_alignable, compared_order, one_net_compared}
+use Rattle.report_file.proofs.Combined.{as_it_is, as_merged, compared_alignable, compared_order, never_again, one_net_compared}
 use Rattle.report_file.proofs.Compared.{found, good_first}
 use Rattle.report_file.proofs.LastPair.{top_last}
 use Rattle.report_file.proofs.NamedTops.{named_tops}

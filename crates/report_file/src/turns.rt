@@ -41,8 +41,8 @@ pub struct Turns {
 fn merges_again(rules: &RuleSet) -> bool
     ensures { result ≡ merges_again (rules_seen rules.now) }
 {
-    let is_flattened = rules.flat_layouts.is_empty() && rules.flat_schematics.is_empty();
-    rules.combine && (rules.flattens_unmatched || !is_flattened)
+    let names_none = rules.flat_layouts.is_empty() && rules.flat_schematics.is_empty();
+    rules.combine && (rules.flattens_unmatched || !names_none)
 }
 
 // Layout and schematic compared by the rules, in the form that a report has; partners are as these
@@ -159,6 +159,7 @@ fn push_turn(
     found: &Compared,
     goes: &[bool],
 ) -> Result<(), AllocError>
+    requires { length goes.now ≡ length found.now.answers }
     ensures { OnOk result (lines.new.items ≡ lines.old.items
         ++ (again_line found.now.merged_again ++ apart_texts (lefts_of found.now)
         (rights_of found.now) 0 goes.now (answers_of found.now))) }
