@@ -31,3 +31,4 @@ mod SameTop
 mod TopStays
 mod TopKept
 mod TopPartner
+pub mod AsAnswered
