@@ -6,7 +6,7 @@ use Rattle.view_drawing.proofs.Placing.{front, nil_of}
 use Rattle.view_netlist.specs.Drawing.{Drawn, IsSmallDrawing, plain_drawing}
 use Rattle.view_netlist.specs.declared.drawing.Drawing.{Drawing}
 use Rattle.view_picture.specs.Picture.{plain_drawings}
-use Rattle.view_picture.proofs.Answered.{PlacesOn, no_drawing, no_left, no_other, places_next}
+use Rattle.view_picture.proofs.Placed.{PlacesOn, no_drawing, no_left, no_other, places_next}
 use Rattle.view_picture.proofs.answered.place_all.Goals as goal
 
 pub place-requires : goal.place-requires
