@@ -270,8 +270,8 @@ def compared(extracted, rule_set, schematic):
     if rule_set.combine:
         left = _merge_all(left, b"layout")
         schematic = _merge_all(schematic, b"schematic")
-    pairs, answers, past, over = turns.compare(left, extracted.top, schematic, rule_set)
-    text = report.report_text(extracted, pairs, answers, past, over)
+    pairs, answers, again, past, over = turns.compare(left, extracted.top, schematic, rule_set)
+    text = report.report_text(extracted, pairs, answers, again, past, over)
     words = [a.word for a in answers or ()]
     if pairs is None or extracted.bad or "differs" in words:
         status = BAD

@@ -82,8 +82,8 @@ def write(circuits):
     return b"".join(line + b"\n" for line in lines)
 
 
-def merged(circuit):
-    """The circuit with each class of alike devices made one, or None where it is too wide."""
+def merged(circuit, widest=10 ** 27):
+    """The circuit with each class of alike devices made one, or None where one is wider than this."""
     places, devices = {}, []
     for device in circuit.devices:
         key = (device.device_class, device.length, device.gate, device.bulk,
@@ -96,7 +96,7 @@ def merged(circuit):
         else:
             places[key] = len(devices)
             devices.append(device)
-    if any(d.width > 10 ** 27 for d in devices if d.device_class[0] > 32):
+    if widest is not None and any(d.width > widest for d in devices if d.device_class[0] > 32):
         return None
     out = Circuit(circuit.name)
     return normal(out, circuit.pins, devices, circuit.calls, circuit.nets.__getitem__)

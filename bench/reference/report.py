@@ -6,11 +6,12 @@ from names import escape
 SIDES = (b"layout", b"schematic")
 
 
-def report_text(extracted, pairs, answers, turns=(), over=None):
+def report_text(extracted, pairs, answers, again=False, turns=(), over=None):
     """The report; `pairs` and `answers` are None where the top has no partner.
 
-    `turns` has for each turn its pairs, its answers and the numbers of the pairs that went; `over`
-    is the name of the circuit at which the limit ended the turns.
+    `again` says that the answers are of circuits merged again; `turns` has for each turn its pairs,
+    its answers, whether these are, and the numbers of the pairs that went; `over` is the name of the
+    circuit at which the limit ended the turns.
     """
     layout = extracted.layout
     top = extracted.circuits[extracted.top].name
@@ -24,11 +25,13 @@ def report_text(extracted, pairs, answers, turns=(), over=None):
         lines.append(b"gate %s %s %d %d %s" % (
             escape(layout.names[cell]), escape(gate.device.device_class),
             gate.least[0], gate.least[1], gate.cause))
-    for earlier, found, went in turns:
+    for earlier, found, merged, went in turns:
+        lines += [b"combined again"] * merged
         for number in went:
             lines += apart_lines(earlier, number, found[number])
     if over is not None:
         lines.append(b"apart limit " + escape(over))
+    lines += [b"combined again"] * again
     for number in range(len(pairs or ())):
         lines += pair_lines(pairs, number, answers[number])
     lines.append(b"end")

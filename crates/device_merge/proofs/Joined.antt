@@ -1,5 +1,5 @@
 -- What a transistor does to the groups of alike ones: it joins one or begins one.
-use Rattle.std.proofs.Common.{◌≡◌, ◌<◌, ◌≤◌, ◌+◌, ◌^◌, ℕ, suc, Bool, true, false, ◌&&◌, ◌||◌, nat_lt, cond, List, [], ◌∷◌, ◌++◌, map, length, refl, ap, ◌∙◌, sym, subst, arith, true≢false}
+use Rattle.std.proofs.Common.{◌≡◌, ◌<◌, ◌≤◌, ◌+◌, ℕ, suc, Bool, true, false, ◌&&◌, ◌||◌, nat_lt, cond, List, [], ◌∷◌, ◌++◌, map, length, refl, ap, ◌∙◌, sym, subst, arith, true≢false}
 use Rattle.base_laws.proofs.Lists.{map_last}
 use Rattle.base_laws.proofs.Tests.{or_true}
 use Rattle.std.proofs.lemmas.Bool.{and_parts, or_from, or_parts}
@@ -8,16 +8,16 @@ use Rattle.std.specs.Prelude.{not, bytes_eq}
 use Rattle.plain_netlist.specs.Kinds.{same_device_kind}
 use Rattle.plain_netlist.specs.Devices.{exchanged}
 use Rattle.plain_netlist.specs.Netlist.{DeviceRow}
-use Rattle.merge_laws.specs.Grouped.{Group, Placed, are_wide, grouped, is_alike, is_wide, members, merged_row, same_ends, sum_width, with_device}
+use Rattle.merge_laws.specs.Grouped.{Group, Placed, grouped, is_alike, members, merged_row, same_ends, sum_width, with_device}
 use Rattle.merge_laws.specs.Merge.{added_size, may_merge_row, width_of, with_added, with_width}
 use Rattle.device_merge.specs.Keys.{AreKeys, lone, place_of}
-use Rattle.device_merge.specs.Merging.{placed, wider, width_at, widened}
+use Rattle.device_merge.specs.Merging.{are_wider, is_wider, placed, wider, width_at, widened}
 use Rattle.device_merge.specs.declared.keys.DeviceKey.{DeviceKey}
 
 abbrev pub joined : Group → Placed → Group
 joined g d = record { first = g.first; others = g.others ++ d ∷ [] }
 
-sum_more : (ds : List Placed) (d : Placed) → sum_width (ds ++ d ∷ []) ≡ sum_width ds + width_of d.row
+pub sum_more : (ds : List Placed) (d : Placed) → sum_width (ds ++ d ∷ []) ≡ sum_width ds + width_of d.row
 sum_more [] d = omega arith
 sum_more (e ∷ ds) d = let rest = sum_more ds d in omega arith
 
@@ -92,12 +92,12 @@ merges a b e = first (may_merge_row a) _ _ _ _ _ e
     first false k c s o h e = e
 
 -- wide exactly by its width, where its class may merge
-pub past : (m : Bool) (w : ℕ) → m ≡ true → 10 ^ 27 < w → (m && nat_lt (10 ^ 27) w) ≡ true
-past m w e h = rw e (grind (arith, h))
+pub past : (most : ℕ) (m : Bool) (w : ℕ) → m ≡ true → most < w → (m && nat_lt most w) ≡ true
+past most m w e h = rw e (grind (arith, h))
 
-pub within : (m : Bool) (w : ℕ) → w ≤ 10 ^ 27 → (m && nat_lt (10 ^ 27) w) ≡ false
-within true w h = grind (arith, h)
-within false w h = refl
+pub within : (most : ℕ) (m : Bool) (w : ℕ) → w ≤ most → (m && nat_lt most w) ≡ false
+within most true w h = grind (arith, h)
+within most false w h = refl
 
 -- alike devices have as many sizes
 alike_sized : (a b : DeviceRow) → is_alike a b ≡ true → length b.sizes ≡ 2 → length a.sizes ≡ 2
@@ -122,43 +122,43 @@ joined_is g d alike size =
     let old = width_is g.first.row (sum_width (members g)) two in
     width_is g.first.row (sum_width (members g ++ d ∷ [])) two ∙ omega (arith, sum, old)
 
-joined_width : (g : Group) (d : Placed) → is_alike g.first.row d.row ≡ true → length d.row.sizes ≡ 2 → 10 ^ 27 < width_of (merged_row g) + width_of d.row → 10 ^ 27 < width_of (merged_row (joined g d))
-joined_width g d alike two w = subst (λ (n : ℕ). 10 ^ 27 < n) (sym (joined_is g d alike two)) w
+joined_width : (most : ℕ) (g : Group) (d : Placed) → is_alike g.first.row d.row ≡ true → length d.row.sizes ≡ 2 → most < width_of (merged_row g) + width_of d.row → most < width_of (merged_row (joined g d))
+joined_width most g d alike two w = subst (λ (n : ℕ). most < n) (sym (joined_is g d alike two)) w
 
-joined_low : (g : Group) (d : Placed) → is_alike g.first.row d.row ≡ true → length d.row.sizes ≡ 2 → width_of (merged_row g) + width_of d.row ≤ 10 ^ 27 → width_of (merged_row (joined g d)) ≤ 10 ^ 27
-joined_low g d alike two w = subst (λ (n : ℕ). n ≤ 10 ^ 27) (sym (joined_is g d alike two)) w
+joined_low : (most : ℕ) (g : Group) (d : Placed) → is_alike g.first.row d.row ≡ true → length d.row.sizes ≡ 2 → width_of (merged_row g) + width_of d.row ≤ most → width_of (merged_row (joined g d)) ≤ most
+joined_low most g d alike two w = subst (λ (n : ℕ). n ≤ most) (sym (joined_is g d alike two)) w
 
-pub wide_joined : (gs : List Group) (d : Placed) → length d.row.sizes ≡ 2 → place_of gs d.row < length gs → 10 ^ 27 < width_at (place_of gs d.row) (map merged_row gs) + width_of d.row → are_wide (with_device gs d) ≡ true
-wide_joined [] d two low wide = absurd (omega arith)
-wide_joined (g ∷ gs) d two low wide = at (is_alike g.first.row d.row) refl low wide (wide_joined gs d two)
+pub wide_joined : (most : ℕ) (gs : List Group) (d : Placed) → length d.row.sizes ≡ 2 → place_of gs d.row < length gs → most < width_at (place_of gs d.row) (map merged_row gs) + width_of d.row → are_wider most (with_device gs d) ≡ true
+wide_joined most [] d two low wide = absurd (omega arith)
+wide_joined most (g ∷ gs) d two low wide = at (is_alike g.first.row d.row) refl low wide (wide_joined most gs d two)
   where
-    at : (b : Bool) → is_alike g.first.row d.row ≡ b → cond (not b) (1 + place_of gs d.row) 0 < suc (length gs) → 10 ^ 27 < width_at (cond (not b) (1 + place_of gs d.row) 0) (merged_row g ∷ map merged_row gs) + width_of d.row
-        → (place_of gs d.row < length gs → 10 ^ 27 < width_at (place_of gs d.row) (map merged_row gs) + width_of d.row → are_wide (with_device gs d) ≡ true)
-        → are_wide (cond b (joined g d ∷ gs) (g ∷ with_device gs d)) ≡ true
-    at true e l w rec = ap (λ (b : Bool). b || are_wide gs) (past (may_merge_row g.first.row) (width_of (merged_row (joined g d))) (merges g.first.row d.row e) (joined_width g d e two w))
-    at false e l w rec = ap (λ (b : Bool). is_wide (merged_row g) || b) (rec (omega arith) (subst (λ (k : ℕ). 10 ^ 27 < width_at k (merged_row g ∷ map merged_row gs) + width_of d.row) (sym (one_more (place_of gs d.row))) w)) ∙ or_true (is_wide (merged_row g))
+    at : (b : Bool) → is_alike g.first.row d.row ≡ b → cond (not b) (1 + place_of gs d.row) 0 < suc (length gs) → most < width_at (cond (not b) (1 + place_of gs d.row) 0) (merged_row g ∷ map merged_row gs) + width_of d.row
+        → (place_of gs d.row < length gs → most < width_at (place_of gs d.row) (map merged_row gs) + width_of d.row → are_wider most (with_device gs d) ≡ true)
+        → are_wider most (cond b (joined g d ∷ gs) (g ∷ with_device gs d)) ≡ true
+    at true e l w rec = ap (λ (b : Bool). b || are_wider most gs) (past most (may_merge_row g.first.row) (width_of (merged_row (joined g d))) (merges g.first.row d.row e) (joined_width most g d e two w))
+    at false e l w rec = ap (λ (b : Bool). is_wider most (merged_row g) || b) (rec (omega arith) (subst (λ (k : ℕ). most < width_at k (merged_row g ∷ map merged_row gs) + width_of d.row) (sym (one_more (place_of gs d.row))) w)) ∙ or_true (is_wider most (merged_row g))
 
-pub narrow_joined : (gs : List Group) (d : Placed) → length d.row.sizes ≡ 2 → are_wide gs ≡ false → place_of gs d.row < length gs → width_at (place_of gs d.row) (map merged_row gs) + width_of d.row ≤ 10 ^ 27 → are_wide (with_device gs d) ≡ false
-narrow_joined [] d two none low fits = absurd (omega arith)
-narrow_joined (g ∷ gs) d two none low fits = at (is_alike g.first.row d.row) refl low fits (narrow_joined gs d two ((or_parts _ _ none).1))
+pub narrow_joined : (most : ℕ) (gs : List Group) (d : Placed) → length d.row.sizes ≡ 2 → are_wider most gs ≡ false → place_of gs d.row < length gs → width_at (place_of gs d.row) (map merged_row gs) + width_of d.row ≤ most → are_wider most (with_device gs d) ≡ false
+narrow_joined most [] d two none low fits = absurd (omega arith)
+narrow_joined most (g ∷ gs) d two none low fits = at (is_alike g.first.row d.row) refl low fits (narrow_joined most gs d two ((or_parts _ _ none).1))
   where
-    at : (b : Bool) → is_alike g.first.row d.row ≡ b → cond (not b) (1 + place_of gs d.row) 0 < suc (length gs) → width_at (cond (not b) (1 + place_of gs d.row) 0) (merged_row g ∷ map merged_row gs) + width_of d.row ≤ 10 ^ 27
-        → (place_of gs d.row < length gs → width_at (place_of gs d.row) (map merged_row gs) + width_of d.row ≤ 10 ^ 27 → are_wide (with_device gs d) ≡ false)
-        → are_wide (cond b (joined g d ∷ gs) (g ∷ with_device gs d)) ≡ false
-    at true e l w rec = or_from _ _ (within (may_merge_row g.first.row) (width_of (merged_row (joined g d))) (joined_low g d e two w)) ((or_parts _ _ none).1)
-    at false e l w rec = or_from _ _ ((or_parts _ _ none).0) (rec (omega arith) (subst (λ (k : ℕ). width_at k (merged_row g ∷ map merged_row gs) + width_of d.row ≤ 10 ^ 27) (sym (one_more (place_of gs d.row))) w))
+    at : (b : Bool) → is_alike g.first.row d.row ≡ b → cond (not b) (1 + place_of gs d.row) 0 < suc (length gs) → width_at (cond (not b) (1 + place_of gs d.row) 0) (merged_row g ∷ map merged_row gs) + width_of d.row ≤ most
+        → (place_of gs d.row < length gs → width_at (place_of gs d.row) (map merged_row gs) + width_of d.row ≤ most → are_wider most (with_device gs d) ≡ false)
+        → are_wider most (cond b (joined g d ∷ gs) (g ∷ with_device gs d)) ≡ false
+    at true e l w rec = or_from _ _ (within most (may_merge_row g.first.row) (width_of (merged_row (joined g d))) (joined_low most g d e two w)) ((or_parts _ _ none).1)
+    at false e l w rec = or_from _ _ ((or_parts _ _ none).0) (rec (omega arith) (subst (λ (k : ℕ). width_at k (merged_row g ∷ map merged_row gs) + width_of d.row ≤ most) (sym (one_more (place_of gs d.row))) w))
 
 -- a transistor alone is as wide as it is
-lone_wide : (place : ℕ) (row : DeviceRow) → is_wide (merged_row (lone place row)) ≡ is_wide row
-lone_wide place row = ap is_wide (same_width row)
+lone_wide : (most : ℕ) (place : ℕ) (row : DeviceRow) → is_wider most (merged_row (lone place row)) ≡ is_wider most row
+lone_wide most place row = ap (is_wider most) (same_width row)
 
-pub begun_wide : (gs : List Group) (place : ℕ) (row : DeviceRow) → are_wide (gs ++ lone place row ∷ []) ≡ (are_wide gs || is_wide row)
-begun_wide [] place row = ap (λ (b : Bool). b || false) (lone_wide place row) ∙ last (is_wide row)
+pub begun_wide : (most : ℕ) (gs : List Group) (place : ℕ) (row : DeviceRow) → are_wider most (gs ++ lone place row ∷ []) ≡ (are_wider most gs || is_wider most row)
+begun_wide most [] place row = ap (λ (b : Bool). b || false) (lone_wide most place row) ∙ last (is_wider most row)
   where
     last : (b : Bool) → (b || false) ≡ b
     last true = refl
     last false = refl
-begun_wide (g ∷ gs) place row = ap (λ (b : Bool). is_wide (merged_row g) || b) (begun_wide gs place row) ∙ through (is_wide (merged_row g)) (are_wide gs) (is_wide row)
+begun_wide most (g ∷ gs) place row = ap (λ (b : Bool). is_wider most (merged_row g) || b) (begun_wide most gs place row) ∙ through (is_wider most (merged_row g)) (are_wider most gs) (is_wider most row)
   where
     through : (a b c : Bool) → (a || (b || c)) ≡ ((a || b) || c)
     through true b c = refl
@@ -170,11 +170,11 @@ wider_grows (a ∷ []) v w h = omega arith
 wider_grows (a ∷ b ∷ more) v w h = h
 
 -- what is too wide stays so
-pub wide_stays : (gs : List Group) (d : Placed) → are_wide gs ≡ true → are_wide (with_device gs d) ≡ true
-wide_stays [] d wide = absurd (true≢false (sym wide))
-wide_stays (g ∷ gs) d wide = at (is_alike g.first.row d.row) (wide_stays gs d) wide
+pub wide_stays : (most : ℕ) (gs : List Group) (d : Placed) → are_wider most gs ≡ true → are_wider most (with_device gs d) ≡ true
+wide_stays most [] d wide = absurd (true≢false (sym wide))
+wide_stays most (g ∷ gs) d wide = at (is_alike g.first.row d.row) (wide_stays most gs d) wide
   where
-    more : (m : Bool) (v w : ℕ) → v ≤ w → (m && nat_lt (10 ^ 27) v) ≡ true → (m && nat_lt (10 ^ 27) w) ≡ true
+    more : (m : Bool) (v w : ℕ) → v ≤ w → (m && nat_lt most v) ≡ true → (m && nat_lt most w) ≡ true
     more true v w h e = grind (arith, h, e)
     more false v w h e = e
 
@@ -187,13 +187,13 @@ wide_stays (g ∷ gs) d wide = at (is_alike g.first.row d.row) (wide_stays gs d)
     rest true b c e f = refl
     rest false b c e f = f e
 
-    at : (b : Bool) → (are_wide gs ≡ true → are_wide (with_device gs d) ≡ true) → are_wide (g ∷ gs) ≡ true → are_wide (cond b (joined g d ∷ gs) (g ∷ with_device gs d)) ≡ true
+    at : (b : Bool) → (are_wider most gs ≡ true → are_wider most (with_device gs d) ≡ true) → are_wider most (g ∷ gs) ≡ true → are_wider most (cond b (joined g d ∷ gs) (g ∷ with_device gs d)) ≡ true
     at true rec w = here _ _ _ w (more (may_merge_row g.first.row) (width_of (merged_row g)) (width_of (merged_row (joined g d))) (wider_grows g.first.row.sizes (sum_width (members g)) (sum_width (members g ++ d ∷ [])) (let e = sum_more (members g) d in omega arith)))
     at false rec w = rest _ _ _ w rec
 
-pub wide_all : (gs : List Group) (place : ℕ) (rows : List DeviceRow) → are_wide gs ≡ true → are_wide (grouped gs place rows) ≡ true
-wide_all gs place [] wide = wide
-wide_all gs place (row ∷ rows) wide = wide_all (with_device gs (placed place row)) (suc place) rows (wide_stays gs (placed place row) wide)
+pub wide_all : (most : ℕ) (gs : List Group) (place : ℕ) (rows : List DeviceRow) → are_wider most gs ≡ true → are_wider most (grouped gs place rows) ≡ true
+wide_all most gs place [] wide = wide
+wide_all most gs place (row ∷ rows) wide = wide_all most (with_device gs (placed place row)) (suc place) rows (wide_stays most gs (placed place row) wide)
 
 lone_row : (place : ℕ) (row : DeviceRow) → merged_row (lone place row) ≡ row
 lone_row place row = same_width row

@@ -3,3 +3,5 @@ pub mod Alike
 pub mod Going
 pub mod Joined
 pub mod Parted
+pub mod Few
+pub mod Alone

@@ -12,5 +12,5 @@ mod parts;
 
 pub use fault::MergeFault;
 pub use groups::merge_devices;
-pub use merged::merge;
+pub use merged::{MergedAgain, merge, merge_again};
 pub use parts::merged_parts;

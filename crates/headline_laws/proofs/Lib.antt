@@ -2,3 +2,4 @@ pub mod Chosen
 pub mod Flattened
 pub mod Whole
 pub mod Merged
+pub mod Again

@@ -21,7 +21,7 @@ use Rattle.plain_netlist.specs.Flats.{Flat, Corresponds, expanded, Reversed, Thr
 use Rattle.plain_netlist.specs.Netlist.{Netlist, Slot}
 
 -- pairs of nets that are the same pairs, said otherwise
-nets_as : {D N E M : Type 0} (F : Flat D N) (G : Flat E M) (device : D → E → Type 0) (net to : N → M → Type 0) → ((a : N) (x : M) → net a x → to a x) → ((a : N) (x : M) → to a x → net a x)
+pub nets_as : {D N E M : Type 0} (F : Flat D N) (G : Flat E M) (device : D → E → Type 0) (net to : N → M → Type 0) → ((a : N) (x : M) → net a x → to a x) → ((a : N) (x : M) → to a x → net a x)
     → Corresponds F G device net → Corresponds F G device to
 nets_as F G device net to f b h = record {
   there = λ x r k. let y = h.there x r k in (y.0, y.1, y.2, y.3, rows_wider net to f r y.1 y.4);
@@ -32,12 +32,12 @@ nets_as F G device net to f b h = record {
 }
 
 module _ (d : Design) (w : Wiring) (t : Tables) (g : CircuitTables) (layout : Netlist) (rules : List Rule) (unit : ℕ) (level : ℕ → ℕ) (right : AreTablesRight d w t g layout rules unit level) (top : ℕ) (is : IsCircuitCell g.cells top d.top) (schematic : Netlist) (right_top : ℕ) where
-  -- what the merged circuits expand to corresponds, and so does the flat layout with the flattened schematic, both merged
-  pub merged_between : (devices nets : Slot → Slot → Type 0) → Corresponds (expanded (merged_netlist layout) top) (expanded (merged_netlist schematic) right_top) devices nets
+  -- what the merged circuits expand to corresponds, when merged, and so does the flat layout with the flattened schematic, both merged
+  pub merged_by : (devices nets : Slot → Slot → Type 0) → Corresponds (merged (expanded (merged_netlist layout) top)) (merged (expanded (merged_netlist schematic) right_top)) devices nets
       → Corresponds (merged (flat_netlist d w rules unit)) (merged (expanded schematic right_top))
       (Through (Reversed (IsFlatGateOf d w g layout top rules)) (Through (Reversed (IsMadeOf layout top)) (Through devices (IsMadeOf schematic right_top))))
       (Through (Reversed (IsFlatRegionOf d w t g layout top)) nets)
-  merged_between devices nets h =
+  merged_by devices nets third =
       let flat = flat_netlist d w rules unit in
       let own = expanded layout top in
       let near = expanded (merged_netlist layout) top in
@@ -47,7 +47,6 @@ module _ (d : Design) (w : Wiring) (t : Tables) (g : CircuitTables) (layout : Ne
       let regions = IsFlatRegionOf d w t g layout top in
       let first = reversed (merged own) (merged flat) gates regions (merged_same own flat gates regions (flat_corresponds d w t g layout rules unit level right top is)) in
       let second = reversed (merged near) (merged own) (IsMadeOf layout top) (λ (a x : Slot). a ≡ x) (merged_expands layout top) in
-      let third = merged_same near other devices nets h in
       let fourth = merged_expands schematic right_top in
       let last = through (merged near) (merged other) (merged given) devices nets (IsMadeOf schematic right_top) (λ (a x : Slot). a ≡ x) third fourth in
       let later = through (merged own) (merged near) (merged given) (Reversed (IsMadeOf layout top)) (Reversed (λ (a x : Slot). a ≡ x)) (Through devices (IsMadeOf schematic right_top)) (Through nets (λ (a x : Slot). a ≡ x)) second last in
@@ -58,6 +57,13 @@ module _ (d : Design) (w : Wiring) (t : Tables) (g : CircuitTables) (layout : Ne
       (λ a x (m, k, (n, e, (o, h, q))). (m, k, subst (λ z. nets m z) q (subst (λ z. nets z o) e h)))
       (λ a x (m, k, h). (m, k, (m, refl, (x, h, refl))))
       whole
+
+  -- and so where they do unmerged
+  pub merged_between : (devices nets : Slot → Slot → Type 0) → Corresponds (expanded (merged_netlist layout) top) (expanded (merged_netlist schematic) right_top) devices nets
+      → Corresponds (merged (flat_netlist d w rules unit)) (merged (expanded schematic right_top))
+      (Through (Reversed (IsFlatGateOf d w g layout top rules)) (Through (Reversed (IsMadeOf layout top)) (Through devices (IsMadeOf schematic right_top))))
+      (Through (Reversed (IsFlatRegionOf d w t g layout top)) nets)
+  merged_between devices nets h = merged_by devices nets (merged_same (expanded (merged_netlist layout) top) (expanded (merged_netlist schematic) right_top) devices nets h)
 
 pub merged_match : MergedMatchLaw
 merged_match d w t g layout rules unit level right top is schematic right_top same left far v c p asked answers pairings are all =

@@ -1,3 +1,4 @@
+pub mod Again
 pub mod FlatNetlist
 pub mod Headline
 pub mod Merged

@@ -1,5 +1,5 @@
 -- What the answer of a comparison is, by its bad gates and its pairs.
-use Rattle.std.proofs.Common.{Bool, ◌≡◌, inl, inr, ◌↔◌, ℕ, true, false, true≢false, List, [], length, Option, Some, None, IsNone, refl, sym, ap, subst, ◌∙◌}
+use Rattle.std.proofs.Common.{◌≡◌, inl, inr, ◌↔◌, ℕ, true, false, true≢false, List, [], length, Option, Some, None, IsNone, refl, sym, ap, subst, ◌∙◌}
 use Rattle.std.proofs.lemmas.List.{nil_from_length}
 use Rattle.std.specs.List.{Any}
 use Rattle.cell_graph.specs.Linked.{Linked}
@@ -23,7 +23,7 @@ use Rattle.report_file.specs.Exact.{CorrespondNowhere, ExactReportLaw}
 use Rattle.report_file.specs.Matched.{MatchedReportLaw, Matching, MatchingLaw}
 use Rattle.report_file.specs.Turns.{IsTooLarge}
 use Rattle.refine_match.proofs.ClassCounts.{uneven_class}
-use Rattle.report_file.specs.Verdicts.{CarriedPairLaw, KeptPairLaw, UndecidedLaw, UnevenPairLaw}
+use Rattle.report_file.specs.Verdicts.{AsBeforeLaw, CarriedPairLaw, KeptPairLaw, UndecidedLaw, UnevenPairLaw}
 use Rattle.rule_text.specs.Rules.{Rules}
 use Rattle.lvs_run.specs.Answers.{Answer, Counts, Good, Bad, Undecided, comparison_answer}
 use Rattle.lvs_run.specs.Outcomes.{IsReported}
@@ -54,12 +54,12 @@ exactly bad answers v w a one e h = (
 
 -- ---- the top's partner
 
-module _ (layout : Netlist) (top : ℕ) (schematic : Netlist) (same : List (List ℕ × List ℕ)) (limit : ℕ) (same_pins : Bool) where
-  no_partner : (o : Option Compared) → IsComparison layout top schematic same limit same_pins o → IsNone (all_answers o) → HasNoPartner layout schematic top same
+module _ (r : Rules) (layout : Netlist) (top : ℕ) (schematic : Netlist) (same : List (List ℕ × List ℕ)) where
+  no_partner : (o : Option Compared) → IsComparison r layout top schematic same o → IsNone (all_answers o) → HasNoPartner layout schematic top same
   no_partner None h none = h
   no_partner (Some f) h none = let no : true ≡ false = none in absurd (true≢false no)
 
-  no_answers : (o : Option Compared) → IsComparison layout top schematic same limit same_pins o → HasNoPartner layout schematic top same → IsNone (all_answers o)
+  no_answers : (o : Option Compared) → IsComparison r layout top schematic same o → HasNoPartner layout schematic top same → IsNone (all_answers o)
   no_answers None h none = refl
   no_answers (Some f) h none = absurd (none h.0.right_top h.0.are.partner)
 
@@ -86,7 +86,7 @@ exact_of law d r unit layout top bad schematic text pairs fine first comparison.
 
 -- ---- what was compared
 
-module _ (alignable : CombinedAlignableLaw) (one : OneRunVerdictLaw) (uneven : UnevenPairLaw) (carried : CarriedPairLaw) (kept : KeptPairLaw) (undecided : UndecidedLaw) (exact : ExactReportLaw) (joined : MatchingLaw) (l : Layout) (r : Rules) (nl : Netlist) (cells : ℕ) (spelled told : List ℕ) (counts : Counts) (a : Answer)
+module _ (alignable : CombinedAlignableLaw) (one : OneRunVerdictLaw) (uneven : UnevenPairLaw) (carried : CarriedPairLaw) (kept : KeptPairLaw) (undecided : UndecidedLaw) (exact : ExactReportLaw) (before : AsBeforeLaw) (joined : MatchingLaw) (l : Layout) (r : Rules) (nl : Netlist) (cells : ℕ) (spelled told : List ℕ) (counts : Counts) (a : Answer)
     (h : IsReported l r nl cells spelled told counts a) (flat : ShowsFlat l r spelled h.netlist h.top h.bad) where
   -- the netlists that are compared
   abbrev near : Netlist
@@ -126,14 +126,14 @@ module _ (alignable : CombinedAlignableLaw) (one : OneRunVerdictLaw) (uneven : U
       (λ e.
           elim ((come_to comparison.Mismatch).0 e) [
             | inl some ↦ inl (one_bad l r spelled h.netlist h.top h.bad flat some)
-            | inr (inl none) ↦ inr (inl (no_partner near h.top far h.report_file.same r.max_guesses r.tells_pins h.report_file.compared h.report_file.comparison none))
+            | inr (inl none) ↦ inr (inl (no_partner r near h.top far h.report_file.same h.report_file.compared h.report_file.comparison none))
             | inr (inr any) ↦ inr (inr any)
           ]),
       (λ cause.
           (come_to comparison.Mismatch).1 (
           elim cause [
             | inl gate ↦ inl (some_length l r spelled h.netlist h.top h.bad flat gate)
-            | inr (inl none) ↦ inr (inl (no_answers near h.top far h.report_file.same r.max_guesses r.tells_pins h.report_file.compared h.report_file.comparison none))
+            | inr (inl none) ↦ inr (inl (no_answers r near h.top far h.report_file.same h.report_file.compared h.report_file.comparison none))
             | inr (inr any) ↦ inr (inr any)
           ]
           )),
@@ -150,6 +150,7 @@ module _ (alignable : CombinedAlignableLaw) (one : OneRunVerdictLaw) (uneven : U
         carried l.design r near h.top h.bad far told h.pairs h.verdict near_alignable near_order h.report_file f k c d p map is pair answer;
     kept = λ f k c d p is pair map corresponds differs.
         kept l.design r near h.top h.bad far told h.pairs h.verdict near_alignable near_order h.report_file f k c d p map is pair corresponds differs;
+    as_before = λ f is. before l.design r near h.top h.bad far told h.pairs h.verdict near_alignable near_order h.report_file f is;
     joined = λ f is.
         let cells = h.netlist_file.of_cells in
         joined l.design r l.header.unit_pm _ _ _ h.netlist h.top h.bad nl told h.pairs h.verdict cells.right cells.top_is h.report_file f is;
@@ -163,9 +164,9 @@ shows_in : {l : Layout} {r : Rules} {nl : Netlist} {cells : ℕ} {spelled told :
     → (h : IsReported l r nl cells spelled told counts a) → ShowsFlat l r spelled h.netlist h.top h.bad
 shows_in {l} {r} {nl} {cells} {spelled} shows bytes name read h = shows bytes name l r h.netlist h.top h.bad spelled read h.comparable.rules h.netlist_file
 
-pub verdicts_law : CombinedAlignableLaw → ShowsFlatLaw → OneRunVerdictLaw → UnevenPairLaw → CarriedPairLaw → KeptPairLaw → UndecidedLaw → ExactReportLaw → MatchingLaw → VerdictsLaw
-verdicts_law alignable shows one uneven carried kept undecided exact joined bytes name l r nl cells spelled told counts a read h =
-    has_verdicts alignable one uneven carried kept undecided exact joined l r nl cells spelled told counts a h (shows_in shows bytes name read h)
+pub verdicts_law : CombinedAlignableLaw → ShowsFlatLaw → OneRunVerdictLaw → UnevenPairLaw → CarriedPairLaw → KeptPairLaw → UndecidedLaw → ExactReportLaw → AsBeforeLaw → MatchingLaw → VerdictsLaw
+verdicts_law alignable shows one uneven carried kept undecided exact before joined bytes name l r nl cells spelled told counts a read h =
+    has_verdicts alignable one uneven carried kept undecided exact before joined l r nl cells spelled told counts a h (shows_in shows bytes name read h)
 
 pub match_law : ShowsFlatLaw → MatchedReportLaw → MatchLaw
 match_law shows matched bytes name l r nl cells spelled told counts a read h good =

@@ -24,7 +24,7 @@ use Rattle.report_file.specs.File.{IsReportFile, all_answers}
 use Rattle.report_file.specs.Exact.{CorrespondNowhere}
 use Rattle.report_file.specs.Matched.{Matching, MatchesFlat}
 use Rattle.report_file.specs.Turns.{IsTooLarge}
-use Rattle.report_file.specs.Verdicts.{IsComparedPair}
+use Rattle.report_file.specs.Verdicts.{IsAsBefore, IsComparedPair}
 use Rattle.rule_layers.specs.Meaning.{device_rules, wiring_of}
 use Rattle.rule_text.specs.Rules.{Rules}
 use Rattle.spice_rows.specs.Sizes.{read_limit}
@@ -70,8 +70,8 @@ OfEachPair r compared P = (f : Compared) (k : ℕ) (c d : Circuit) (p : Pair) �
 -- comparison. Where the rules say `flatten_unmatched`, no gate is bad, the top has a partner and
 -- nothing became too large, Bad says that the flat layout corresponds to the flattened schematic in
 -- no way, or with `same_pins` in none that keeps the names of pins; where the rules combine
--- devices, it says so of the layout's circuits and the schematic's, in each of which each group of
--- alike transistors is one.
+-- devices, with each class of alike ones as one on both sides. Where no pair differs as its circuits
+-- are, or the rules don't say to make devices one once more, none are.
 pub record HasVerdicts (a : Answer) (l : Layout) (r : Rules) (schematic : Netlist)
     (netlist_text report_text : List ℕ) : Type 0 where
   pub report : IsReportOf l r schematic a netlist_text report_text
@@ -89,6 +89,7 @@ pub record HasVerdicts (a : Answer) (l : Layout) (r : Rules) (schematic : Netlis
       (λ p answer. (map : Pairing) → answer ≡ Match map → IsCorrespondence p map)
   pub kept : OfEachPair r report.file.compared
       (λ p answer. (map : Pairing) → IsCorrespondence p map → IsDifference answer → ⊥)
+  pub as_before : (f : Compared) → report.file.compared ≡ Some f → IsAsBefore r f
   pub joined : (f : Compared) → report.file.compared ≡ Some f
       → (m : Matching l.design r l.header.unit_pm report.netlist report.top schematic f)
       × (m.same ≡ report.file.same)

@@ -7,7 +7,8 @@ use gds_layout::one_layout;
 use netlist_file::{flat_netlist, one_netlist};
 use pair_jobs::verdicts;
 use report_file::{
-    combined_alignable, exact_report, matched_report, matching, one_report, report_verdicts,
+    as_before, combined_alignable, exact_report, matched_report, matching, one_report,
+    report_verdicts,
 };
 use shapes_file::one_file;
 use spice_text::written_laws;
@@ -37,6 +38,7 @@ pub fn compared_laws()
     flat_netlist();
     matched_report();
     exact_report();
+    as_before();
     matching();
     combined_alignable();
     report_verdicts();

@@ -12,7 +12,7 @@ ghost use Rattle.lvs_run.specs.Inputs.{NotWide, stopped};
 ghost use Rattle.net_align.specs.Compared.{AreCalleesFirst, IsAlignable};
 ghost use Rattle.net_model.specs.Rows.{plain_netlist};
 ghost use Rattle.netlist_file.specs.File.{AreFiles, HasFiles, IsNetlistFile};
-ghost use Rattle.report_file.specs.Combined.{compared_of, wide_name};
+ghost use Rattle.report_file.specs.Combined.{AreNarrow, compared_of, wide_name};
 ghost use Rattle.report_file.specs.File.{IsReportFile};
 ghost use Rattle.lvs_run.specs.Answers.{comparison_answer, verdict_of};
 ghost use Rattle.lvs_run.specs.Outcomes.{AreComparable, gates_answer, merge_refusal};
@@ -124,6 +124,8 @@ fn report_on<R: Threads + Wait + Sync, G: Gate + Sync>(
     requires netlist { IsAlignable (plain_netlist netlist.now) }
     requires order { AreCalleesFirst (plain_netlist netlist.now) }
     requires schematic { IsAlignable (plain_netlist schematic.now) }
+    requires narrow { AreNarrow (rules_seen rules.now) (plain_netlist netlist.now)
+        (plain_netlist schematic.now) }
     ensures { IfOk result (λ x. IsReportFile layout.now.design (rules_seen rules.now)
         (plain_netlist netlist.now) found.now.top found.now.bad.items
         (plain_netlist schematic.now) x.text.items x.pairs x.verdict) }

@@ -1,7 +1,7 @@
 //! The netlists that are compared by rules that combine devices.
 
 ghost use Rattle.std.specs.Prelude.{◌≡◌, IfErr, IfOk, None, OnOk, Some};
-ghost use Rattle.device_merge.specs.Merged.{IsMergeFault};
+ghost use Rattle.device_merge.specs.Merged.{IsMergeFault, IsNarrow};
 ghost use Rattle.lvs_run.specs.Inputs.{stopped};
 ghost use Rattle.lvs_run.specs.Merging.{NotNarrow};
 ghost use Rattle.merge_laws.specs.Grouped.{merged_netlist};
@@ -45,6 +45,8 @@ pub fn merge_both(alloc: Global, layout: &Netlist, schematic: &Netlist) -> Resul
         ≡ merged_netlist (plain_netlist layout.now)) }
     ensures schematic { IfOk result (λ m. plain_netlist m.schematic
         ≡ merged_netlist (plain_netlist schematic.now)) }
+    ensures layout_widths { IfOk result (λ m. IsNarrow (plain_netlist m.layout)) }
+    ensures schematic_widths { IfOk result (λ m. IsNarrow (plain_netlist m.schematic)) }
     ensures layout_narrow { OnOk result (first_wide (plain_netlist layout.now) ≡ None) }
     ensures schematic_narrow { OnOk result (first_wide (plain_netlist schematic.now) ≡ None) }
     ensures refused { IfErr result (λ why. NotNarrow (plain_netlist layout.now)

@@ -217,8 +217,8 @@ pub fn run_lvs<R: Threads + Wait + Sync, D: Depot, S: Sink, G: Gate + Sync>(
     // keeps the pins of the pairs below, and one that has such a correspondence is never reported
     // as different. With `flatten_unmatched`, no bad gate and nothing too large, Bad says that the
     // flat layout corresponds to the schematic, flattened from the top's partner, in no way; with
-    // `combine_devices` it says so of the layout's circuits and the schematic's, in each of which
-    // each group of alike transistors is one.
+    // `combine_devices`, where each class of alike ones is one on both sides. Alike devices of the
+    // pairs' circuits are made one once more only where a pair differs without.
     ensures verdicts { WritesVerdicts (said (map string_bytes words.now)) (D.state depot.old)
         (D.state depot.new) (answer_of result) }
     // The netlist's file means, expanded, the netlist of the flat layout. `extract` is Bad exactly

@@ -1,3 +1,5 @@
 pub mod Counted
 pub mod Paired
 pub mod Sided
+pub mod Narrow
+pub mod Again

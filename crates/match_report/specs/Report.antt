@@ -1,6 +1,6 @@
 -- The report of a comparison.
-use Rattle.std.specs.Prelude.{ℕ, List, [], ◌∷◌, ◌++◌, Option, Some, None, length, map, slice_get}
-use Rattle.std.specs.Prelude.{codes, bytes_eq}
+use Rattle.std.specs.Prelude.{ℕ, Bool, true, false, List, [], ◌∷◌, ◌++◌, Option, Some, None}
+use Rattle.std.specs.Prelude.{length, map, slice_get, codes, bytes_eq}
 use Rattle.std.specs.List.{position_or_len}
 use Rattle.cell_graph.specs.Linked.{Linked}
 use Rattle.deep_tables.specs.declared.gates.BadGate.{BadGate}
@@ -32,10 +32,16 @@ abbrev pub partner_word : List ℕ → Option Compared → List ℕ
 partner_word top None = codes " none"
 partner_word top (Some c) = name_word (name_of (partner_of (lefts_of c) (rights_of c) top))
 
--- the blocks of the pairs; none where the top has no partner
+-- the line of a comparison whose circuits were merged again
+abbrev pub again_line : Bool → List ℕ
+again_line true = codes "combined again\n"
+again_line false = []
+
+-- the blocks of the pairs, behind that line; none where the top has no partner
 abbrev pub blocks : Option Compared → List ℕ
 blocks None = []
-blocks (Some c) = pair_texts (lefts_of c) (rights_of c) 0 (answers_of c)
+blocks (Some c) =
+    again_line c.merged_again ++ pair_texts (lefts_of c) (rights_of c) 0 (answers_of c)
 
 -- the whole report; `apart` has the lines of the pairs that were taken apart
 abbrev pub report : Linked → List ℕ → List BadGate → List ℕ → Option Compared → List ℕ

@@ -9,4 +9,4 @@ mod words;
 
 pub use apart::{push_apart, push_limit};
 pub use pairs::push_answer;
-pub use report::{Compared, report_text};
+pub use report::{Compared, push_again, report_text};

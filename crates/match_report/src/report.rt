@@ -1,7 +1,7 @@
 //! The whole report.
 ghost use Rattle.std.specs.Prelude.{◌≡◌, ◌<◌, ◌++◌, IfOk, OnOk, bytes_eq, length, map};
 ghost use Rattle.std.specs.List.{All, position_or_len};
-ghost use Rattle.match_report.specs.Report.{blocks, partner_word, report};
+ghost use Rattle.match_report.specs.Report.{again_line, blocks, partner_word, report};
 ghost use Rattle.net_model.specs.Rows.{plain_circuit};
 
 use crate::gates::push_gates;
@@ -16,11 +16,13 @@ use net_names::Name;
 use std::alloc::{AllocError, Global};
 
 /// What a comparison came to: the circuits of the layout and of the schematic, paired by number,
-/// and the answer of each pair.
+/// and the answer of each pair; where they were merged again, of the circuits with each group of
+/// alike transistors as one once more.
 #[derive(Drop)]
 pub struct Compared {
     pub left: Netlist,
     pub right: Netlist,
+    pub merged_again: bool,
     pub answers: Results<Answer>,
 }
 
@@ -58,6 +60,16 @@ fn push_partner(
     }
 }
 
+/// The line of a comparison whose circuits were merged again; no line of another.
+pub fn push_again(out: &mut Vec<u8>, merged_again: bool) -> Result<(), AllocError>
+    ensures { OnOk result (out.new.items ≡ out.old.items ++ again_line merged_again) }
+{
+    if merged_again {
+        out.extend_from_slice(b"combined again\n")?;
+    }
+    Ok(())
+}
+
 fn push_blocks(
     alloc: Global,
     out: &mut Vec<u8>,
@@ -70,8 +82,10 @@ fn push_blocks(
             let Compared {
                 left,
                 right,
+                merged_again,
                 answers,
             } = found;
+            push_again(out, *merged_again)?;
             push_pairs(alloc, out, &left.circuits, &right.circuits, answers)
         }
         None => Ok(()),
@@ -80,9 +94,10 @@ fn push_blocks(
 
 /// The report of a comparison as a text: the line `lvs report 1`; the layout's top and its partner
 /// in the schematic, or `none`; how many gates are bad, and a line for each with its cell, class,
-/// least square in database units, and cause; the lines of the pairs that were taken apart; a block
-/// for each pair of circuits with its answer and what shows it; `end`. Nets, devices and calls are
-/// numbered from 1, names are escaped. Linear in the text. An `Err` is want of memory.
+/// least square in database units, and cause; the lines of the pairs that were taken apart; the
+/// line `combined again` where the circuits were merged again; a block for each pair of circuits
+/// with its answer and what shows it; `end`. Nets, devices and calls are numbered from 1, names are
+/// escaped. Linear in the text. An `Err` is want of memory.
 pub fn report_text(
     alloc: Global,
     top: &Name,

@@ -6,9 +6,9 @@ use Rattle.plain_netlist.specs.Devices.{terminal_nets}
 use Rattle.plain_netlist.proofs.Rows.{rows_terminal}
 use Rattle.plain_netlist.specs.Netlist.{DeviceRow, CallRow, Circuit, Netlist, IsDevice, HasNet}
 use Rattle.plain_netlist.specs.Normal.{AreNumbered, IsNormalCircuit}
-use Rattle.plain_netlist.specs.Sound.{IsCallPath}
+use Rattle.plain_netlist.specs.Sound.{AreCallsFitting, AreNetsThere, IsCallPath}
 use Rattle.merge_laws.specs.Merge.{with_width}
-use Rattle.merge_laws.specs.Grouped.{is_alike, Placed, Group, with_device, grouped, groups, merged_row, merged_circuit, merged_netlist, SoundMergedLaw, NormalMergedLaw}
+use Rattle.merge_laws.specs.Grouped.{is_alike, Placed, Group, with_device, grouped, groups, merged_row, merged_circuit, merged_netlist, GoodMergedLaw, SoundMergedLaw, NormalMergedLaw}
 use Rattle.merge_laws.proofs.Alike.{is_turned, alike_law}
 use Rattle.merge_laws.proofs.Nets as nets
 
@@ -30,6 +30,24 @@ module _ (nl : Netlist) where
       let listed : IsListed n (terminal_nets (merged_row g.0)) = subst (λ (z : DeviceRow). IsListed n (terminal_nets z)) (sym g.2) on in
       net_there c n (all g.0.first.place n g.0.first.row c first listed)
 
+  pub nets_merged : AreNetsThere nl → AreNetsThere ml
+  nets_merged within = record {
+    pins = λ c i n (x, is, at). let o = nets.circuit_back nl c x is in net_there c n (within.pins c i n (o.0, o.1, subst (λ (z : Circuit). slice_get z.pins i ≡ Some n) (sym o.2) at));
+    calls = λ c k p n row call at. net_there c n (within.calls c k p n row (nets.call_back nl c k row call) at);
+    devices = device_net (λ j n row c has on. within.devices c j n row has on);
+  }
+
+  calls_merged : AreCallsFitting nl → AreCallsFitting ml
+  calls_merged fitting c k row call = let d = fitting c k row (nets.call_back nl c k row call) in (merged_circuit d.0, nets.circuit_there nl row.circuit d.0 d.1, d.2)
+
+pub good_merged : GoodMergedLaw
+good_merged nl height good = record {
+  within = nets_merged nl good.within;
+  called = calls_merged nl good.called;
+  lower = λ c k row call. good.lower c k row (nets.call_back nl c k row call);
+  pins = λ c i n (x, is, at). let o = nets.circuit_back nl c x is in good.pins c i n (o.0, o.1, subst (λ (z : Circuit). slice_get z.pins i ≡ Some n) (sym o.2) at);
+}
+
 pub sound_merged : SoundMergedLaw
 sound_merged nl sound = record {
   names = λ b c x y is it e.
@@ -39,12 +57,8 @@ sound_merged nl sound = record {
   net_names = λ c a b x name is f g.
       let o = nets.circuit_back nl c x is in
       sound.net_names c a b o.0 name o.1 (subst (λ (z : Circuit). slice_get z.nets a ≡ Some name) (sym o.2) f) (subst (λ (z : Circuit). slice_get z.nets b ≡ Some name) (sym o.2) g);
-  nets = record {
-    pins = λ c i n (x, is, at). let o = nets.circuit_back nl c x is in net_there nl c n (sound.nets.pins c i n (o.0, o.1, subst (λ (z : Circuit). slice_get z.pins i ≡ Some n) (sym o.2) at));
-    calls = λ c k p n row call at. net_there nl c n (sound.nets.calls c k p n row (nets.call_back nl c k row call) at);
-    devices = device_net nl (λ j n row c has on. sound.nets.devices c j n row has on);
-  };
-  calls = λ c k row call. let d = sound.calls c k row (nets.call_back nl c k row call) in (merged_circuit d.0, nets.circuit_there nl row.circuit d.0 d.1, d.2);
+  nets = nets_merged nl sound.nets;
+  calls = calls_merged nl sound.calls;
   no_cycle = λ c (k, ks, path). sound.no_cycle c (k, ks, path_back nl (k ∷ ks) c c path);
 }
 

@@ -5,6 +5,8 @@ pub mod Totals
 pub mod Nets
 pub mod Expands
 pub mod Kept
+pub mod Leaves
+pub mod Sides
 pub mod Roots
 pub mod Listed
 pub mod NoneLost

@@ -2,6 +2,7 @@
 use Rattle.std.specs.Prelude.{◌≡◌, ◌+◌, ◌^◌, ℕ, suc, Bool, true, false, ◌==◌, ◌&&◌, ◌||◌, cond}
 use Rattle.std.specs.Prelude.{nat_lt, List, [], ◌∷◌, ◌++◌, map, Some, slice_get, bytes_eq}
 use Rattle.std.specs.List.{list_any}
+use Rattle.align_laws.specs.Partners.{AreSides}
 use Rattle.plain_netlist.specs.Netlist.{DeviceRow, Circuit, Netlist, IsCircuit, Slot, slot}
 use Rattle.plain_netlist.specs.Netlist.{IsCall, CallRow}
 use Rattle.plain_netlist.specs.Kinds.{same_device_kind}
@@ -10,7 +11,7 @@ use Rattle.plain_netlist.specs.Flats.{Corresponds, expanded}
 use Rattle.plain_netlist.specs.FlatLaws.{ExpandAlike, Passes}
 use Rattle.plain_netlist.specs.Lists.{IsListed}
 use Rattle.plain_netlist.specs.Normal.{IsNormalNetlist}
-use Rattle.plain_netlist.specs.Sound.{IsSoundNetlist}
+use Rattle.plain_netlist.specs.Sound.{IsGood, IsSoundNetlist}
 use Rattle.merge_laws.specs.Merge.{may_merge_row, with_added, width_of, with_width, AreAlike}
 use Rattle.merge_laws.specs.Merge.{merged}
 
@@ -119,6 +120,16 @@ UnlikeLaw = (nl : Netlist) (t : ℕ) (c : Circuit) → IsCircuit (merged_netlist
 -- a sound netlist stays sound
 abbrev pub SoundMergedLaw : Type 0
 SoundMergedLaw = (nl : Netlist) → IsSoundNetlist nl → IsSoundNetlist (merged_netlist nl)
+
+-- a good netlist stays good, with its heights
+abbrev pub GoodMergedLaw : Type 0
+GoodMergedLaw = (nl : Netlist) (height : ℕ → ℕ) → IsGood nl height
+    → IsGood (merged_netlist nl) height
+
+-- two netlists whose circuits are compared by position stay so
+abbrev pub SidesMergedLaw : Type 0
+SidesMergedLaw = (left right : Netlist) → AreSides left right
+    → AreSides (merged_netlist left) (merged_netlist right)
 
 -- a netlist in normal form stays so
 abbrev pub NormalMergedLaw : Type 0

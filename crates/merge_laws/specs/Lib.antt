@@ -1,3 +1,4 @@
+pub mod Leaves
 pub mod Merge
 pub mod Grouped
 pub mod Whole

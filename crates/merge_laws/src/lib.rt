@@ -8,7 +8,9 @@
 mod whole;
 
 ghost use Rattle.merge_laws.specs.Grouped.{AlikeLaw, AlikeBackLaw, UnlikeLaw, MergedSameLaw};
-ghost use Rattle.merge_laws.specs.Grouped.{MergedExpandsLaw, NormalMergedLaw, SoundMergedLaw};
+ghost use Rattle.merge_laws.specs.Grouped.{GoodMergedLaw, MergedExpandsLaw, NormalMergedLaw};
+ghost use Rattle.merge_laws.specs.Grouped.{SidesMergedLaw, SoundMergedLaw};
+ghost use Rattle.merge_laws.specs.Leaves.{UnlikeLeafLaw};
 
 pub use whole::whole_netlists;
 
@@ -24,9 +26,17 @@ pub fn merging()
     ensures unlike { UnlikeLaw }
     ensures sound { SoundMergedLaw }
     ensures normal { NormalMergedLaw }
+    ensures good { GoodMergedLaw }
+    ensures sides { SidesMergedLaw }
 {}
 
 /// What such circuits expand to is, when merged, what the given ones expand to, when merged.
 pub fn merged_expansions()
     ensures { MergedExpandsLaw }
+{}
+
+/// Where a circuit calls nothing and no two of its devices are alike, nothing is left to merge of
+/// what it expands to.
+pub fn unlike_leaves()
+    ensures { UnlikeLeafLaw }
 {}

@@ -1,5 +1,6 @@
 -- The answers of all pairs as a list.
-use Rattle.std.specs.Prelude.{◌≡◌, ℕ, List, [], map, length, Option, Some, None, slice_index_or}
+use Rattle.std.specs.Prelude.{◌≡◌, ℕ, Bool, false, true, List, [], map, length, Option, Some, None}
+use Rattle.std.specs.Prelude.{slice_index_or}
 use Rattle.std.specs.List.{All}
 use Rattle.plain_netlist.specs.Flats.{Corresponds, expanded}
 use Rattle.plain_netlist.specs.Netlist.{Circuit, Netlist, IsCircuit}
@@ -47,6 +48,14 @@ IsMatch (DiffersInRound r a m n) = ⊥
 IsMatch (DiffersByTree gs) = ⊥
 IsMatch (Undecided gs) = ⊥
 IsMatch (Skipped q) = ⊥
+
+-- the answer is that the circuits differ
+abbrev pub is_difference : Answer → Bool
+is_difference (Match f) = false
+is_difference (DiffersInRound r a m n) = true
+is_difference (DiffersByTree gs) = true
+is_difference (Undecided gs) = false
+is_difference (Skipped q) = false
 
 abbrev pub pairing_in : Option Pairing → Pairing
 pairing_in (Some f) = f

@@ -10,4 +10,4 @@ mod verdict;
 pub use children::child_pins;
 pub use jobs::pair_graph;
 pub use laws::{pair_answers, verdicts};
-pub use verdict::{Verdict, judge_run};
+pub use verdict::{Verdict, judge_run, some_differs};

@@ -1,7 +1,9 @@
 //! What the answers of all pairs come to.
 ghost use Rattle.std.specs.Option.{IsSomeAnd, option_map};
-ghost use Rattle.std.specs.Prelude.{◌≤◌, ◌^◌, IfOk, OnErr, length, map};
+ghost use Rattle.std.specs.List.{list_any};
+ghost use Rattle.std.specs.Prelude.{◌≡◌, ◌≤◌, ◌^◌, IfOk, OnErr, length, map};
 ghost use Rattle.match_types.specs.Plain.{plain_answer};
+ghost use Rattle.pair_jobs.specs.Answers.{is_difference};
 ghost use Rattle.pair_jobs.specs.Verdict.{IsRunVerdict, IsVerdict};
 
 use job_graph::{Reads, Results};
@@ -34,6 +36,20 @@ fn judge(answers: &Results<Answer>) -> Result<Verdict, AllocError>
         }
     }
     Ok(verdict)
+}
+
+/// Whether a pair differs. It takes no memory; the error is 2^32 pairs or more.
+pub fn some_differs(answers: &Results<Answer>) -> Result<bool, AllocError>
+    ensures some { IfOk result (λ some. some
+        ≡ list_any is_difference (map plain_answer answers.now)) }
+    ensures err { OnErr result (2 ^ 32 ≤ length answers.now) }
+{
+    let verdict = judge(answers)?;
+    match verdict {
+        Verdict::Mismatch => Ok(true),
+        Verdict::Match => Ok(false),
+        Verdict::Undecided => Ok(false),
+    }
 }
 
 /// What a run comes to, by the number of bad gates and the answers, if the layout's top has a

@@ -7,7 +7,8 @@ use Rattle.std.proofs.lemmas.Option.{slice_get_within, get_or_from_slice_get}
 use Rattle.plain_netlist.specs.Netlist.{Circuit, Netlist}
 use Rattle.match_laws.specs.Answer.{Answer}
 use Rattle.pair_turns.proofs.Lists.{filled}
-use Rattle.pair_turns.specs.Going.{AreGoing, calls_none, goes, goes_from, is_difference, takes_apart}
+use Rattle.pair_jobs.specs.Answers.{is_difference}
+use Rattle.pair_turns.specs.Going.{AreGoing, calls_none, goes, goes_from, takes_apart}
 
 -- the marks when the first k pairs were looked at
 pub record IsGoingBelow (left right : Netlist) (answers : List Answer) (k : ℕ) (marks : List Bool) : Type 0 where

@@ -2,17 +2,9 @@
 use Rattle.std.specs.Prelude.{◌≡◌, ℕ, ◌+◌, Bool, true, false, ◌==◌, ◌&&◌, ◌||◌, nat_lt, List}
 use Rattle.std.specs.Prelude.{◌∷◌, length, slice_index_or, if◌then◌else◌}
 use Rattle.plain_netlist.specs.Netlist.{Circuit, Netlist}
-use Rattle.match_laws.specs.Answer.{Answer, Match, DiffersInRound, DiffersByTree, Undecided}
-use Rattle.match_laws.specs.Answer.{Skipped}
+use Rattle.match_laws.specs.Answer.{Answer}
+use Rattle.pair_jobs.specs.Answers.{is_difference}
 use Rattle.composed_laws.specs.Answered.{is_called}
-
--- the answer is that the circuits differ
-abbrev pub is_difference : Answer → Bool
-is_difference (Match f) = false
-is_difference (DiffersInRound r a m n) = true
-is_difference (DiffersByTree gs) = true
-is_difference (Undecided gs) = false
-is_difference (Skipped q) = false
 
 abbrev pub calls_none : Circuit → Bool
 calls_none c = length c.calls == 0

@@ -5,7 +5,8 @@ ghost use Rattle.std.specs.List.{All, list_any};
 ghost use Rattle.align_laws.specs.Partners.{AreSides};
 ghost use Rattle.match_types.specs.Plain.{plain_answer};
 ghost use Rattle.net_model.specs.Rows.{plain_circuit, plain_netlist};
-ghost use Rattle.pair_turns.specs.Going.{AreGoing, calls_none, is_difference, takes_apart};
+ghost use Rattle.pair_jobs.specs.Answers.{is_difference};
+ghost use Rattle.pair_turns.specs.Going.{AreGoing, calls_none, takes_apart};
 
 use job_graph::{Reads, Results};
 use list_base::number;

@@ -11,7 +11,8 @@ use Rattle.align_laws.specs.Cut.{Alignment}
 use Rattle.composed_laws.specs.Answered.{is_called}
 use Rattle.match_laws.specs.Answer.{Answer, DiffersByTree, DiffersInRound, IsDifference, Match, Skipped, Undecided}
 use Rattle.net_align.specs.Compared.{AreCalleesFirst}
-use Rattle.pair_turns.specs.Going.{AreGoing, calls_none, goes_from, is_difference, takes_apart}
+use Rattle.pair_jobs.specs.Answers.{is_difference}
+use Rattle.pair_turns.specs.Going.{AreGoing, calls_none, goes_from, takes_apart}
 use Rattle.plain_netlist.specs.Netlist.{CallRow, Circuit, Netlist, IsCircuit}
 use Rattle.plain_netlist.specs.Sound.{IsCallPath}
 use Rattle.plain_netlist.proofs.Faults.{sides}

@@ -1,14 +1,14 @@
 -- Two circuits that call nothing and expand to the same have a correspondence.
-use Rattle.std.proofs.Common.{◌≡◌, inl, inr, ℕ, ◌<◌, List, [], ◌∷◌, length, Some, slice_get, refl, sym, ap, subst, ◌∙◌, arith}
+use Rattle.std.proofs.Common.{◌≡◌, ℕ, ◌<◌, List, [], length, Some, slice_get, refl, sym, ap, subst, ◌∙◌, arith}
 use Rattle.base_laws.proofs.Items.{item_at}
 use Rattle.std.specs.Prelude.{slice_index}
 use Rattle.std.proofs.lemmas.Option.{slice_get_within}
 use Rattle.match_laws.specs.Circuits.{IsCorrespondence, IsDeviceImage, IsOneToOne, Pair, Pairing, pin_name}
-use Rattle.plain_netlist.specs.Chains.{IsChain}
+use Rattle.merge_laws.proofs.Leaves as leaves
 use Rattle.plain_netlist.specs.Devices.{AreRowsAlike, Row, terminal_nets}
 use Rattle.plain_netlist.specs.Flats.{Corresponds, Reversed, expanded, row_at}
 use Rattle.plain_netlist.specs.Lists.{IsListed}
-use Rattle.plain_netlist.specs.Netlist.{CallRow, Circuit, DeviceRow, HasDevice, InOneNet, IsCall, IsCircuit, IsEitherJoin, IsOnPin, IsTerminal, Joins, Netlist, Slot, slot}
+use Rattle.plain_netlist.specs.Netlist.{CallRow, Circuit, DeviceRow, HasDevice, InOneNet, IsCircuit, IsOnPin, IsTerminal, Netlist, Slot, slot}
 use Rattle.plain_netlist.specs.Sound.{AreNetsThere}
 use Rattle.plain_netlist.proofs.Alike.{reversed, terminal_image}
 use Rattle.plain_netlist.proofs.Members.{listed, position}
@@ -30,35 +30,14 @@ pub record IsLeaf (nl : Netlist) (k : ℕ) (c : Circuit) : Type 0 where
   pub within : AreNetsThere nl
 
 module _ (nl : Netlist) (k : ℕ) (c : Circuit) (leaf : IsLeaf nl k c) where
-  no_call : (e : ℕ) (row : CallRow) → IsCall nl k e row → ⊥
-  no_call e row (x, is, at) =
-      let also = leaf.circuit in
-      let same : x ≡ c = cc in
-      let none : slice_get [] e ≡ Some row = subst (λ (rs : List CallRow). slice_get rs e ≡ Some row) (ap (λ (y : Circuit). y.calls) same ∙ leaf.calls) at in absurd cc
-
   pub own_device : (path : List ℕ) (j : ℕ) (row : DeviceRow) → HasDevice nl k path j row → (path ≡ []) × (slice_get c.devices j ≡ Some row)
-  own_device [] j row (x, is, at) =
-      let also = leaf.circuit in
-      let same : x ≡ c = cc in (refl, subst (λ (y : Circuit). slice_get y.devices j ≡ Some row) same at)
-  own_device (e ∷ es) j row (call, is, more) = absurd (no_call e call is)
+  own_device = leaves.own_device nl k c leaf.circuit leaf.calls
 
   has_device : (j : ℕ) (row : DeviceRow) → slice_get c.devices j ≡ Some row → HasDevice nl k [] j row
   has_device j row at = (c, leaf.circuit, at)
 
-  no_joins : (path : List ℕ) (outer e inner : ℕ) → Joins nl k path outer e inner → ⊥
-  no_joins [] outer e inner h = no_call e h.0 h.1
-  no_joins (j ∷ js) outer e inner h = no_call j h.0 h.1
-
-  no_join : (a b : Slot) → IsEitherJoin nl k a b → ⊥
-  no_join a b (inl h) = no_joins a.path a.net h.number b.net h.joins
-  no_join a b (inr h) = no_joins b.path b.net h.number a.net h.joins
-
   pub one_slot : (a b : Slot) → InOneNet nl k a b → a ≡ b
-  one_slot a b h = step h.via h.chain
-    where
-      step : (via : List Slot) → IsChain (IsEitherJoin nl k) a via b → a ≡ b
-      step [] e = e
-      step (x ∷ xs) e = absurd (no_join a x e.0)
+  one_slot = leaves.one_slot nl k c leaf.circuit leaf.calls
 
   self_slot : (a : Slot) → InOneNet nl k a a
   self_slot a = record { via = []; chain = refl }

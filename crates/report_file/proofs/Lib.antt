@@ -3,12 +3,15 @@ mod Folded
 mod Read
 mod Aligning
 mod Compared
+pub mod AsAnswered
 mod Kept
 mod Gone
 mod Turned
 mod SoFar
 mod Taking
 mod OneLimit
+mod LastPair
+mod OneAnswer
 mod OneTurn
 mod One
 mod Matched
@@ -20,7 +23,8 @@ mod NamedTops
 mod Choosing
 mod LeafPair
 mod LeafMade
-mod LastPair
+mod MergedLeaf
+mod Nowhere
 mod Exact
 mod Helps
 mod SameTop

@@ -40,7 +40,7 @@ place_of nl n c is one =
 
 pub top_partner : TopPartnerLaw
 top_partner d r layout top bad schematic text pairs v sound x f e =
-    let a = (found layout top schematic x.same r.max_guesses r.tells_pins x.compared f e x.comparison).0 in
+    let a = (found r layout top schematic x.same x.compared f e x.comparison).0 in
     let p = a.are in
     let left = plain_netlist f.left in
     let right = plain_netlist f.right in

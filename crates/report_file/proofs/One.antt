@@ -1,30 +1,29 @@
 -- Two reports of the same are one.
-use Rattle.std.proofs.Common.{◌≡◌, ℕ, ◌<◌, Bool, List, [], ◌∷◌, ◌++◌, Option, Some, None, length, get_or, slice_get, codes, refl, sym, ap, subst, ◌∙◌, arith}
-use Rattle.std.proofs.lemmas.List.{ext_get_or, get_or_default}
-use Rattle.std.proofs.lemmas.Option.{slice_get-get_or}
+use Rattle.std.proofs.Common.{◌≡◌, ℕ, Bool, List, [], ◌∷◌, ◌++◌, Option, Some, None, length, slice_get, codes, refl, sym, ap, subst, ◌∙◌}
 use Rattle.align_laws.specs.Partners.{AlignedSidesLaw, AreLinesApart, AreSides, IsAlignedPair, LeftOrderLaw, OnePairLaw, OnePartnerLaw}
 use Rattle.cell_graph.specs.Linked.{Linked}
-use Rattle.composed_laws.specs.Answered.{Asked, OneAnswerOfLaw, TogetherAnswersLaw}
+use Rattle.composed_laws.specs.Answered.{OneAnswerOfLaw, TogetherAnswersLaw}
 use Rattle.deep_tables.specs.declared.gates.BadGate.{BadGate}
-use Rattle.match_laws.specs.Answer.{Answer, Skipped}
+use Rattle.match_flow.specs.Again.{IsAnswered}
+use Rattle.match_laws.specs.Answer.{Answer}
 use Rattle.match_report.specs.Gates.{gate_lines}
 use Rattle.match_report.specs.Pairs.{name_of, pair_texts}
-use Rattle.match_report.specs.Report.{answers_of, blocks, lefts_of, partner_of, partner_word, report, rights_of}
+use Rattle.match_report.specs.Report.{again_line, answers_of, blocks, lefts_of, partner_of, partner_word, report, rights_of}
 use Rattle.match_report.specs.Words.{name_word, number_word}
 use Rattle.match_report.specs.declared.report.Compared.{Compared}
 use Rattle.net_align.proofs.PairKept.{lines_apart}
-use Rattle.match_types.specs.Answered.{asked_of}
 use Rattle.net_align.specs.Compared.{AreAligned, AreCalleesFirst, IsAlignable, IsTopPartner}
 use Rattle.net_model.specs.Rows.{plain_netlist}
-use Rattle.pair_jobs.specs.Answers.{AreAllAnswers, answer_at}
 use Rattle.pair_jobs.specs.Verdict.{IsRunVerdict, OneRunVerdictLaw}
 use Rattle.pair_turns.specs.Alone.{Names, all_names, longest, same_alone, with_gone}
 use Rattle.pair_turns.specs.Laws.{AloneLaw, LinesApartLaw, LongestLaw}
-use Rattle.plain_netlist.specs.Netlist.{Circuit, Netlist, IsCircuit}
-use Rattle.report_file.proofs.Compared.{HaveOrder, no_circuit, ordered}
+use Rattle.plain_netlist.specs.Netlist.{Circuit, Netlist}
+use Rattle.report_file.proofs.Compared.{ordered}
+use Rattle.report_file.proofs.OneAnswer.{one_answered}
 use Rattle.report_file.proofs.OneTurn.{AreSame, end_or_turn, one_end, one_goes, one_here, turn_or_end}
 use Rattle.report_file.proofs.SoFar.{fit_by_rules}
 use Rattle.report_file.proofs.Turned.{AreFit, fit_after, lefts_once, rights_once}
+use Rattle.report_file.specs.Combined.{merges_again}
 use Rattle.report_file.specs.Compared.{IsComparison}
 use Rattle.report_file.specs.File.{all_answers, pair_count}
 use Rattle.report_file.specs.One.{OneReportLaw}
@@ -40,22 +39,6 @@ answer_count (Some all) = length all
 record IsSameShown (one other : Option Compared) : Type 0 where
   pub text : (d : Linked) (top : List ℕ) (bad : List BadGate) (lines : List ℕ) → report d top bad lines one ≡ report d top bad lines other
   pub answers : all_answers one ≡ all_answers other
-
--- all answers of two sides are one list
-one_list : TogetherAnswersLaw → OneAnswerOfLaw → (left right : Netlist) (asked : Asked) (answers others : List Answer) → HaveOrder left right
-    → AreAllAnswers left right asked answers → AreAllAnswers left right asked others → answers ≡ others
-one_list together one left right asked answers others order h g = ext_get_or (Skipped 0) answers others (h.count ∙ sym g.count) each
-  where
-    each : (k : ℕ) → k < length answers → get_or answers k (Skipped 0) ≡ get_or others k (Skipped 0)
-    each k lt =
-        let count = h.count in
-        let more = g.count in
-        let is : IsCircuit left k (get_or left.circuits k no_circuit) = slice_get-get_or left.circuits k no_circuit (omega (arith, count, lt)) in
-        let a = (together left right asked (answer_at answers) order.sides order.good).0 h.each k (get_or left.circuits k no_circuit) is in
-        let b = (together left right asked (answer_at others) order.sides order.good).0 g.each k (get_or left.circuits k no_circuit) is in
-        get_or_default answers k (Skipped 0) (Skipped k) lt
-        ∙ (one left right asked k (answer_at answers k) (answer_at others k) order.sides a b
-        ∙ get_or_default others k (Skipped k) (Skipped 0) (omega (arith, count, more, lt)))
 
 -- equal sides and answers are shown by one text
 same_shown : (f g : Compared) → AreSame f g → IsSameShown (Some f) (Some g)
@@ -79,8 +62,10 @@ same_shown f g same = record {
 
     text : blocks (Some f) ≡ blocks (Some g)
     text =
-        ap (λ (cs : List Circuit). pair_texts cs (rights_of f) 0 (answers_of f)) lefts
-        ∙ (ap (λ (cs : List Circuit). pair_texts (lefts_of g) cs 0 (answers_of f)) rights ∙ ap (λ (all : List Answer). pair_texts (lefts_of g) (rights_of g) 0 all) same.answers)
+        ap (λ (b : Bool). again_line b ++ pair_texts (lefts_of f) (rights_of f) 0 (answers_of f)) same.again
+        ∙ ap (λ (cs : List Circuit). again_line g.merged_again ++ pair_texts cs (rights_of f) 0 (answers_of f)) lefts
+        ∙ (ap (λ (cs : List Circuit). again_line g.merged_again ++ pair_texts (lefts_of g) cs 0 (answers_of f)) rights
+        ∙ ap (λ (all : List Answer). again_line g.merged_again ++ pair_texts (lefts_of g) (rights_of g) 0 all) same.answers)
 
 -- the laws by which there is one comparison
 pub record Laws : Type 0 where
@@ -94,7 +79,7 @@ pub record Laws : Type 0 where
   pub lines : LinesApartLaw
   pub alone : AloneLaw
 
-module _ (laws : Laws) (layout : Netlist) (top : ℕ) (schematic : Netlist) (same : List (List ℕ × List ℕ)) (limit : ℕ) (same_pins : Bool) (lines : AreLinesApart same) (fine : IsAlignable layout) (also : IsAlignable schematic)
+module _ (laws : Laws) (layout : Netlist) (top : ℕ) (schematic : Netlist) (r : Rules) (same : List (List ℕ × List ℕ)) (lines : AreLinesApart same) (fine : IsAlignable layout) (also : IsAlignable schematic)
     (first : AreCalleesFirst layout) where
   -- there is one aligned pair
   one_aligned : (l r m s : Netlist) → AreAligned layout schematic top same l r → AreAligned layout schematic top same m s → (l ≡ m) × (r ≡ s)
@@ -104,17 +89,20 @@ module _ (laws : Laws) (layout : Netlist) (top : ℕ) (schematic : Netlist) (sam
       (subst (λ (n : ℕ). IsAlignedPair layout schematic top n same m s b.left_by b.right_by) partner b.are)
 
   -- and one comparison
-  one_compared : (f g : Compared) → IsComparison layout top schematic same limit same_pins (Some f) → IsComparison layout top schematic same limit same_pins (Some g) → AreSame f g
+  one_compared : (f g : Compared) → IsComparison r layout top schematic same (Some f) → IsComparison r layout top schematic same (Some g) → AreSame f g
   one_compared f g h k =
       let left = plain_netlist f.left in
       let right = plain_netlist f.right in
-      let asked = asked_of left limit same_pins in
       let both = one_aligned left right (plain_netlist g.left) (plain_netlist g.right) h.0 k.0 in
-      let moved = subst (λ (n : Netlist). AreAllAnswers left n asked (answers_of g)) (sym both.1) (subst (λ (n : Netlist). AreAllAnswers n (plain_netlist g.right) (asked_of n limit same_pins) (answers_of g)) (sym both.0) k.1) in
+      let moved = subst (λ (n : Netlist). IsAnswered (merges_again r) r.max_guesses r.tells_pins left n g.merged_again (answers_of g)) (sym both.1)
+      (subst (λ (n : Netlist). IsAnswered (merges_again r) r.max_guesses r.tells_pins n (plain_netlist g.right) g.merged_again (answers_of g)) (sym both.0) k.1) in
+      let order = ordered laws.sides laws.order layout schematic top same left right fine first h.0 in
+      let one = one_answered laws.together laws.one_answer (merges_again r) r.max_guesses r.tells_pins left right order f.merged_again (answers_of f) h.1 g.merged_again (answers_of g) moved in
       record {
         left = both.0;
         right = both.1;
-        answers = one_list laws.together laws.one_answer left right asked (answers_of f) (answers_of g) (ordered laws.sides laws.order layout schematic top same left right fine first h.0) h.1 moved;
+        again = one.0;
+        answers = one.1;
       }
 
 -- the comparison and the lines are shown by one text
@@ -128,17 +116,17 @@ module _ (laws : Laws) (r : Rules) (layout : Netlist) (top : ℕ) (schematic : N
       lines_apart (same_alone most alone r.same) (lefts_once laws.lines layout schematic r.same most alone fit sound.formed.layouts) (rights_once laws.lines layout schematic r.same most alone fit sound.formed.schematics)
 
   module _ (alone : Names) (fit : AreFit layout schematic r.same most alone) where
-    same_compared : (f g : Compared) → IsComparison layout top schematic (same_alone most alone r.same) r.max_guesses r.tells_pins (Some f) → IsComparison layout top schematic (same_alone most alone r.same) r.max_guesses r.tells_pins (Some g) → AreSame f g
-    same_compared f g h k = one_compared laws layout top schematic (same_alone most alone r.same) r.max_guesses r.tells_pins (apart_at alone fit) fine also first f g h k
+    same_compared : (f g : Compared) → IsComparison r layout top schematic (same_alone most alone r.same) (Some f) → IsComparison r layout top schematic (same_alone most alone r.same) (Some g) → AreSame f g
+    same_compared f g h k = one_compared laws layout top schematic r (same_alone most alone r.same) (apart_at alone fit) fine also first f g h k
 
-    sides_of : (f : Compared) → IsComparison layout top schematic (same_alone most alone r.same) r.max_guesses r.tells_pins (Some f) → AreSides (plain_netlist f.left) (plain_netlist f.right)
+    sides_of : (f : Compared) → IsComparison r layout top schematic (same_alone most alone r.same) (Some f) → AreSides (plain_netlist f.left) (plain_netlist f.right)
     sides_of f h = (ordered laws.sides laws.order layout schematic top (same_alone most alone r.same) (plain_netlist f.left) (plain_netlist f.right) fine first h.0).sides
 
     -- a comparison by the lines of these circuits
-    by_alone : (same : List (List ℕ × List ℕ)) (o : Option Compared) → IsComparedSo r layout top schematic most alone same o → IsComparison layout top schematic (same_alone most alone r.same) r.max_guesses r.tells_pins o
-    by_alone same o so = subst (λ (s : List (List ℕ × List ℕ)). IsComparison layout top schematic s r.max_guesses r.tells_pins o) so.told so.comparison
+    by_alone : (same : List (List ℕ × List ℕ)) (o : Option Compared) → IsComparedSo r layout top schematic most alone same o → IsComparison r layout top schematic (same_alone most alone r.same) o
+    by_alone same o so = subst (λ (s : List (List ℕ × List ℕ)). IsComparison r layout top schematic s o) so.told so.comparison
 
-    one_last : (one other : Option Compared) (lines others : List ℕ) → IsComparison layout top schematic (same_alone most alone r.same) r.max_guesses r.tells_pins one → IsComparison layout top schematic (same_alone most alone r.same) r.max_guesses r.tells_pins other
+    one_last : (one other : Option Compared) (lines others : List ℕ) → IsComparison r layout top schematic (same_alone most alone r.same) one → IsComparison r layout top schematic (same_alone most alone r.same) other
         → EndsAfter r one lines → EndsAfter r other others → IsOneEnd one other lines others
     one_last None None lines others h k e f = record { shown = record { text = λ d name bad ls. refl; answers = refl }; lines_same = e ∙ sym f }
     one_last None (Some g) lines others h k e f = absurd (h k.0.right_top k.0.are.partner)
@@ -146,13 +134,13 @@ module _ (laws : Laws) (r : Rules) (layout : Netlist) (top : ℕ) (schematic : N
     one_last (Some f) (Some g) lines others h k d e =
         let same = same_compared f g h k in record { shown = same_shown f g same; lines_same = one_end r f g same (sides_of f h) lines others d e }
 
-    last_or_turn : (one : Option Compared) (g : Compared) (lines here : List ℕ) (goes : List Bool) → IsComparison layout top schematic (same_alone most alone r.same) r.max_guesses r.tells_pins one
-        → IsComparison layout top schematic (same_alone most alone r.same) r.max_guesses r.tells_pins (Some g) → EndsAfter r one lines → IsTurn r g goes here → ⊥
+    last_or_turn : (one : Option Compared) (g : Compared) (lines here : List ℕ) (goes : List Bool) → IsComparison r layout top schematic (same_alone most alone r.same) one
+        → IsComparison r layout top schematic (same_alone most alone r.same) (Some g) → EndsAfter r one lines → IsTurn r g goes here → ⊥
     last_or_turn None g lines here goes h k e t = h k.0.right_top k.0.are.partner
     last_or_turn (Some f) g lines here goes h k e t = end_or_turn r f g (same_compared f g h k) (sides_of f h) lines here goes e t
 
-    turn_or_last : (f : Compared) (other : Option Compared) (here others : List ℕ) (goes : List Bool) → IsComparison layout top schematic (same_alone most alone r.same) r.max_guesses r.tells_pins (Some f)
-        → IsComparison layout top schematic (same_alone most alone r.same) r.max_guesses r.tells_pins other → IsTurn r f goes here → EndsAfter r other others → ⊥
+    turn_or_last : (f : Compared) (other : Option Compared) (here others : List ℕ) (goes : List Bool) → IsComparison r layout top schematic (same_alone most alone r.same) (Some f)
+        → IsComparison r layout top schematic (same_alone most alone r.same) other → IsTurn r f goes here → EndsAfter r other others → ⊥
     turn_or_last f None here others goes h k t e = k h.0.right_top h.0.are.partner
     turn_or_last f (Some g) here others goes h k t e = turn_or_end r f g (same_compared f g h k) (sides_of f h) here others goes t e
 
@@ -163,7 +151,7 @@ module _ (laws : Laws) (r : Rules) (layout : Netlist) (top : ℕ) (schematic : N
         ∙ ap (λ (n : Netlist). with_gone alone (plain_netlist f.left) n b) (sym same.right)
         ∙ ap (λ (x : List Bool). with_gone alone (plain_netlist f.left) (plain_netlist f.right) x) (sym e)
 
-    next_fit : (f : Compared) (goes : List Bool) → IsComparison layout top schematic (same_alone most alone r.same) r.max_guesses r.tells_pins (Some f) → AreFit layout schematic r.same most (with_gone alone (plain_netlist f.left) (plain_netlist f.right) goes)
+    next_fit : (f : Compared) (goes : List Bool) → IsComparison r layout top schematic (same_alone most alone r.same) (Some f) → AreFit layout schematic r.same most (with_gone alone (plain_netlist f.left) (plain_netlist f.right) goes)
     next_fit f goes h = fit_after laws.alone layout schematic top r.same most alone fit fine.names also.names (plain_netlist f.left) (plain_netlist f.right) h.0 goes
 
   one_turns : (past others_past : List Compared) (alone : Names) → AreFit layout schematic r.same most alone → (same other_same : List (List ℕ × List ℕ)) (one other : Option Compared) (lines others : List ℕ)

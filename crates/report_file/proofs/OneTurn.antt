@@ -1,12 +1,12 @@
 -- What follows a comparison is one.
-use Rattle.std.proofs.Common.{◌≡◌, ◌⊎◌, inl, inr, ℕ, Bool, false, List, Option, Some, None, sym, ap, subst, ◌∙◌, true≢false}
+use Rattle.std.proofs.Common.{◌≡◌, ◌⊎◌, inl, inr, ℕ, Bool, false, List, ◌++◌, Option, Some, None, sym, ap, subst, ◌∙◌, true≢false}
 use Rattle.std.specs.List.{list_any}
 use Rattle.std.proofs.lemmas.List.{ext_get_or}
 use Rattle.std.proofs.lemmas.Option.{none-some}
 use Rattle.align_laws.specs.Partners.{AreSides}
 use Rattle.match_laws.specs.Answer.{Answer}
 use Rattle.match_report.specs.Apart.{apart_texts, limit_text}
-use Rattle.match_report.specs.Report.{answers_of, lefts_of, rights_of}
+use Rattle.match_report.specs.Report.{again_line, answers_of, lefts_of, rights_of}
 use Rattle.match_report.specs.declared.report.Compared.{Compared}
 use Rattle.net_model.specs.Rows.{plain_netlist}
 use Rattle.pair_turns.specs.Going.{AreGoing}
@@ -16,10 +16,11 @@ use Rattle.report_file.proofs.OneLimit.{one_limit}
 use Rattle.report_file.specs.Turns.{AreTakenApart, EndsWith, IsTurn, NoneGoes}
 use Rattle.rule_text.specs.Rules.{Rules}
 
--- the sides and the answers are the same
+-- the sides and the answers are the same, and of circuits merged alike
 pub record AreSame (f g : Compared) : Type 0 where
   pub left : plain_netlist f.left ≡ plain_netlist g.left
   pub right : plain_netlist f.right ≡ plain_netlist g.right
+  pub again : f.merged_again ≡ g.merged_again
   pub answers : answers_of f ≡ answers_of g
 
 one_going : (left right : Netlist) (answers : List Answer) (g h : List Bool) → AreGoing left right answers g → AreGoing left right answers h → g ≡ h
@@ -76,8 +77,9 @@ module _ (r : Rules) (f g : Compared) (same : AreSame f g) (s : AreSides (plain_
   pub one_here : (l m : List ℕ) (a b : List Bool) → IsTurn r f a l → IsTurn r g b m → l ≡ m
   one_here l m a b h k =
       h.told
-      ∙ ap (λ (cs : List Circuit). apart_texts cs (rights_of f) 0 a (answers_of f)) (ap (λ (n : Netlist). n.circuits) same.left)
-      ∙ ap (λ (cs : List Circuit). apart_texts (lefts_of g) cs 0 a (answers_of f)) (ap (λ (n : Netlist). n.circuits) same.right)
-      ∙ ap (λ (x : List Bool). apart_texts (lefts_of g) (rights_of g) 0 x (answers_of f)) (one_goes l m a b h k)
-      ∙ ap (λ (vs : List Answer). apart_texts (lefts_of g) (rights_of g) 0 b vs) same.answers
+      ∙ ap (λ (t : Bool). again_line t ++ apart_texts (lefts_of f) (rights_of f) 0 a (answers_of f)) same.again
+      ∙ ap (λ (cs : List Circuit). again_line g.merged_again ++ apart_texts cs (rights_of f) 0 a (answers_of f)) (ap (λ (n : Netlist). n.circuits) same.left)
+      ∙ ap (λ (cs : List Circuit). again_line g.merged_again ++ apart_texts (lefts_of g) cs 0 a (answers_of f)) (ap (λ (n : Netlist). n.circuits) same.right)
+      ∙ ap (λ (x : List Bool). again_line g.merged_again ++ apart_texts (lefts_of g) (rights_of g) 0 x (answers_of f)) (one_goes l m a b h k)
+      ∙ ap (λ (vs : List Answer). again_line g.merged_again ++ apart_texts (lefts_of g) (rights_of g) 0 b vs) same.answers
       ∙ sym k.told

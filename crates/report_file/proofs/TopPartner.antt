@@ -17,6 +17,8 @@ use Rattle.pair_turns.specs.Laws.{AloneLaw, LinesApartLaw, LongestLaw}
 use Rattle.pair_turns.proofs.Lists.{found, listed_found, of_map, on_map, picked}
 use Rattle.plain_netlist.specs.Lists.{IsListed}
 use Rattle.plain_netlist.specs.Netlist.{Circuit, Netlist}
+use Rattle.report_file.proofs.AsAnswered.{answer_count}
+use Rattle.report_file.specs.Combined.{merges_again}
 use Rattle.report_file.proofs.Compared.{ordered}
 use Rattle.report_file.proofs.SameTop.{IsFree, same_top}
 use Rattle.report_file.proofs.SoFar.{fit_by_rules}
@@ -81,7 +83,7 @@ module _ (one : OnePartnerLaw) (sides : AlignedSidesLaw) (order : LeftOrderLaw) 
       let now = same_top most alone layout schematic r.same fit.low top kept.whole kept.free b kept.also partner in
       let is = (one layout schematic top said fine.names also.names apart).0 top a.right_top b a.are.partner now in
       let o_left = (ordered sides order layout schematic top said left right fine first a).good.lower in
-      let next = kept_after layout schematic top r.same most alone fit fine.names also.names apart left right a first o_left (answers_of f) h.3.comparison.1.count h.0 h.4.apart.going b is kept in
+      let next = kept_after layout schematic top r.same most alone fit fine.names also.names apart left right a first o_left (answers_of f) (answer_count (merges_again r) r.max_guesses r.tells_pins left right f.merged_again (answers_of f) h.3.comparison.1) h.0 h.4.apart.going b is kept in
       let next_fit = fit_after alone_law layout schematic top r.same most alone fit fine.names also.names left right a h.0 in
       kept_on most more (with_gone alone left right h.0) next_fit next same o h.2 h.6
 

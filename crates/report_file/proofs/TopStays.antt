@@ -11,7 +11,8 @@ use Rattle.align_laws.specs.Cut.{Alignment}
 use Rattle.align_laws.specs.Partners.{IsAlignedPair}
 use Rattle.composed_laws.specs.Answered.{is_called}
 use Rattle.match_laws.specs.Answer.{Answer}
-use Rattle.pair_turns.specs.Going.{AreGoing, calls_none, goes_from, is_difference, takes_apart}
+use Rattle.pair_jobs.specs.Answers.{is_difference}
+use Rattle.pair_turns.specs.Going.{AreGoing, calls_none, goes_from, takes_apart}
 use Rattle.plain_netlist.specs.Netlist.{CallRow, Circuit, Netlist, IsCircuit}
 use Rattle.plain_netlist.specs.Sound.{IsCallPath, IsGood}
 use Rattle.plain_netlist.proofs.Members.{position}

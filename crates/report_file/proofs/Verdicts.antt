@@ -16,8 +16,9 @@ use Rattle.pair_jobs.specs.Verdict.{IsRunVerdict, IsUndecided, IsVerdict, OneRun
 use Rattle.pair_jobs.specs.declared.verdict.Verdict.{Verdict}
 use Rattle.pair_jobs.specs.declared.verdict.Verdict.TheVariants as verdict
 use Rattle.refine_match.specs.Matching.{HaveUnevenDevices}
+use Rattle.report_file.proofs.AsAnswered.{answered_order}
 use Rattle.report_file.proofs.Compared.{found, ordered}
-use Rattle.report_file.specs.Compared.{asked_by}
+use Rattle.report_file.specs.Compared.{asked_by, left_answered, right_answered}
 use Rattle.report_file.specs.File.{all_answers}
 use Rattle.report_file.specs.Verdicts.{BadGateLaw, CarriedPairLaw, KeptPairLaw, UndecidedLaw, UnevenPairLaw}
 
@@ -31,12 +32,12 @@ outcome_of bad o f v e h = subst (λ (c : Option Compared). IsRunVerdict bad (al
 pub uneven_pair : OneRunVerdictLaw → UnevenDevicesLaw → UnevenPairLaw
 uneven_pair one uneven d r layout top bad schematic text pairs v x f k a b p e is differ =
     let answers = answers_of f in
-    let left = plain_netlist f.left in
-    let c = found layout top schematic x.same r.max_guesses r.tells_pins x.compared f e x.comparison in
+    let left = left_answered f in
+    let c = found r layout top schematic x.same x.compared f e x.comparison in
     let within = slice_get_within left.circuits k a is.left in
-    let count = c.1.count in
+    let count = c.1.at_last.count in
     let lt : k < length answers = omega (arith, within, count) in
-    let here = uneven left (plain_netlist f.right) (asked_by r f) answers c.1 k a b is.left is.right (subst HaveUnevenDevices is.pair_is differ) in
+    let here = uneven left (right_answered f) (asked_by r f) answers c.1.at_last k a b is.left is.right (subst HaveUnevenDevices is.pair_is differ) in
     let any : Any IsDifference answers = (k, answer_at answers k, lt, get_or_default answers k (answer_at answers k) (Skipped k) lt, here) in
     one (length bad) (Some answers) v verdict.Mismatch (outcome_of (length bad) x.compared f v e x.outcome) (inr (inr any))
 
@@ -44,18 +45,18 @@ pub carried_pair : AlignedSidesLaw → LeftOrderLaw → pairs.CarriedPairLaw →
 carried_pair sides order carried d r layout top bad schematic text pairs v fine first x f k a b p m e is matches =
     let left = plain_netlist f.left in
     let right = plain_netlist f.right in
-    let c = found layout top schematic x.same r.max_guesses r.tells_pins x.compared f e x.comparison in
-    let o = ordered sides order layout schematic top x.same left right fine first c.0 in
-    subst (λ (q : Pair). IsCorrespondence q m) (sym is.pair_is) (carried left right (asked_by r f) (answers_of f) o.sides o.good c.1 k a b m is.left is.right matches)
+    let c = found r layout top schematic x.same x.compared f e x.comparison in
+    let o = answered_order f.merged_again left right (ordered sides order layout schematic top x.same left right fine first c.0) in
+    subst (λ (q : Pair). IsCorrespondence q m) (sym is.pair_is) (carried (left_answered f) (right_answered f) (asked_by r f) (answers_of f) o.sides o.good c.1.at_last k a b m is.left is.right matches)
 
 pub kept_pair : AlignedSidesLaw → LeftOrderLaw → pairs.KeptPairLaw → KeptPairLaw
 kept_pair sides order kept d r layout top bad schematic text pairs v fine first x f k a b p m e is corresponds =
     let answers = answers_of f in
     let left = plain_netlist f.left in
     let right = plain_netlist f.right in
-    let c = found layout top schematic x.same r.max_guesses r.tells_pins x.compared f e x.comparison in
-    let o = ordered sides order layout schematic top x.same left right fine first c.0 in
-    kept left right (asked_by r f) answers o.sides o.good c.1 k a b m is.left is.right (subst (λ (q : Pair). IsCorrespondence q m) is.pair_is corresponds)
+    let c = found r layout top schematic x.same x.compared f e x.comparison in
+    let o = answered_order f.merged_again left right (ordered sides order layout schematic top x.same left right fine first c.0) in
+    kept (left_answered f) (right_answered f) (asked_by r f) answers o.sides o.good c.1.at_last k a b m is.left is.right (subst (λ (q : Pair). IsCorrespondence q m) is.pair_is corresponds)
 
 -- an undecided comparison has sides
 undecided_some : (bad : ℕ) (o : Option Compared) → IsRunVerdict bad (all_answers o) verdict.Undecided → (bad ≡ 0) × ((f : Compared) × (o ≡ Some f) × IsVerdict (answers_of f) verdict.Undecided)
@@ -77,6 +78,6 @@ undecided sides order one law d r layout top bad schematic text pairs v fine fir
     settled f e =
         let left = plain_netlist f.left in
         let right = plain_netlist f.right in
-        let c = found layout top schematic x.same r.max_guesses r.tells_pins x.compared f e x.comparison in
-        let o = ordered sides order layout schematic top x.same left right fine first c.0 in
-        law left right (asked_by r f) (answers_of f) o.sides o.good c.1
+        let c = found r layout top schematic x.same x.compared f e x.comparison in
+        let o = answered_order f.merged_again left right (ordered sides order layout schematic top x.same left right fine first c.0) in
+        law (left_answered f) (right_answered f) (asked_by r f) (answers_of f) o.sides o.good c.1.at_last

@@ -6,7 +6,7 @@ use Rattle.flat_layout.specs.GateTables.{GateSquare}
 use Rattle.flat_layout.specs.Regions.{Node}
 use Rattle.headline_laws.specs.FlatNetlist.{flat_netlist}
 use Rattle.match_report.specs.declared.report.Compared.{Compared}
-use Rattle.merge_laws.specs.Grouped.{merged_netlist}
+use Rattle.merge_laws.specs.Merge.{merged}
 use Rattle.net_align.specs.Compared.{AreCalleesFirst, IsAlignable}
 use Rattle.pair_jobs.specs.declared.verdict.Verdict.TheVariants as verdict
 use Rattle.plain_netlist.specs.FlatLaws.{Passes}
@@ -14,26 +14,24 @@ use Rattle.plain_netlist.specs.Flats.{Corresponds, expanded}
 use Rattle.plain_netlist.specs.Netlist.{Netlist, Slot}
 use Rattle.report_file.specs.Combined.{compared_of}
 use Rattle.report_file.specs.File.{IsReportFile}
-use Rattle.report_file.specs.Matched.{KeepsNames, KeepsNetNames, Matching}
+use Rattle.report_file.specs.Matched.{KeepsNames, Matching}
 use Rattle.report_file.specs.Turns.{IsTooLarge}
 use Rattle.rule_layers.specs.Meaning.{device_rules, wiring_of}
 use Rattle.rule_text.specs.Rules.{Rules}
 
 -- no test of pairs is a correspondence of the flat layout's netlist with the schematic, flattened
--- from the partner of the layout's top; by rules that combine devices, of the netlist of the
--- layout's circuits with the schematic, each group of alike transistors of a circuit being one,
--- and flattened from the top and its partner; where the rules say `same_pins`, none that keeps the
--- names of pins
+-- from the partner of the layout's top; by rules that combine devices, of the two where each class
+-- of alike ones is one; where the rules say `same_pins`, none that keeps the names of pins
 pub record CorrespondNowhere (d : Linked) (r : Rules) (unit : ℕ) (layout : Netlist) (top : ℕ)
     (schematic : Netlist) (f : Compared) (m : Matching d r unit layout top schematic f) :
     Type 0 where
   pub flat : r.combine ≡ false → (device : GateSquare → Slot → Bool) (net : Node → Slot → Bool)
       → KeepsNames m (Passes net) → Corresponds (flat_netlist (plain d) (wiring_of r) (device_rules r) unit)
       (expanded schematic m.partner) (Passes device) (Passes net) → ⊥
-  pub combined : r.combine ≡ true → (device net : Slot → Slot → Bool)
-      → KeepsNetNames m (Passes net)
-      → Corresponds (expanded (merged_netlist layout) top)
-      (expanded (merged_netlist schematic) m.partner) (Passes device) (Passes net) → ⊥
+  pub combined : r.combine ≡ true → (device : GateSquare → Slot → Bool) (net : Node → Slot → Bool)
+      → KeepsNames m (Passes net)
+      → Corresponds (merged (flat_netlist (plain d) (wiring_of r) (device_rules r) unit))
+      (merged (expanded schematic m.partner)) (Passes device) (Passes net) → ⊥
 
 -- where the rules say `flatten_unmatched`, no gate is bad, the top has a partner and nothing became
 -- too large, a mismatch is reported where there is no such correspondence

@@ -32,7 +32,7 @@ pub record IsReportFile (d : Linked) (r : Rules) (layout : Netlist) (top : ℕ) 
   pub compared : Option Compared
   pub lines : List ℕ
   pub turns : AreInTurns r layout top schematic same compared lines
-  pub comparison : IsComparison layout top schematic same r.max_guesses r.tells_pins compared
+  pub comparison : IsComparison r layout top schematic same compared
   pub written : text ≡ report d (name_of (slice_get layout.circuits top)) bad lines compared
   pub pair_total : pairs ≡ pair_count compared
   pub outcome : IsRunVerdict (length bad) (all_answers compared) verdict

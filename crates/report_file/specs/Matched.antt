@@ -1,18 +1,21 @@
 -- A reported match: the good gates and the regions of the flat layout correspond one to one to the
 -- devices and the nets of the flattened schematic; by rules that combine devices, where each class
 -- of alike ones is one.
-use Rattle.std.specs.Prelude.{◌≡◌, ℕ, false, true, List, [], Option, Some}
+use Rattle.std.specs.Prelude.{◌≡◌, ℕ, Bool, false, true, List, [], Option, Some}
+use Rattle.align_laws.specs.Aligned.{IsDeviceAligned, IsNetAligned}
 use Rattle.align_laws.specs.Cut.{Alignment}
 use Rattle.align_laws.specs.Partners.{IsAlignedPair}
 use Rattle.cell_graph.specs.Linked.{Linked, plain}
-use Rattle.composed_laws.specs.Matched.{AreDevicesMatched, AreNetsMatched}
+use Rattle.composed_laws.specs.Composed.{AreDevicesPaired, AreNetsPaired}
 use Rattle.deep_tables.specs.declared.gates.BadGate.{BadGate}
 use Rattle.flat_layout.specs.Circuits.{IsCircuitCell}
 use Rattle.flat_layout.specs.Expanded.{AreTablesRight, CircuitTables}
 use Rattle.flat_layout.specs.GateTables.{GateSquare}
 use Rattle.flat_layout.specs.Nets.{Tables}
 use Rattle.flat_layout.specs.Regions.{Node}
+use Rattle.headline_laws.specs.Again.{AreDevicesPairedAgain}
 use Rattle.headline_laws.specs.FlatNetlist.{flat_netlist, IsFlatGateOf, IsFlatRegionOf}
+use Rattle.match_laws.specs.Circuits.{Pairing}
 use Rattle.match_report.specs.Report.{answers_of}
 use Rattle.match_report.specs.declared.report.Compared.{Compared}
 use Rattle.merge_laws.specs.Grouped.{IsMadeOf}
@@ -25,6 +28,7 @@ use Rattle.pair_jobs.specs.declared.verdict.Verdict.TheVariants as verdict
 use Rattle.plain_netlist.specs.Flats.{Corresponds, expanded, Reversed, Through}
 use Rattle.plain_netlist.specs.Netlist.{Netlist, Slot}
 use Rattle.report_file.specs.Combined.{compared_of}
+use Rattle.report_file.specs.Compared.{left_answered}
 use Rattle.report_file.specs.File.{IsReportFile}
 use Rattle.report_file.specs.PinNames.{AreNamesKept}
 use Rattle.rule_layers.specs.Meaning.{device_rules, wiring_of}
@@ -50,14 +54,23 @@ pub record Matching (d : Linked) (r : Rules) (unit : ℕ) (layout : Netlist) (to
   pub aligned : IsAlignedPair (compared_of r layout) (compared_of r schematic) top partner same
       (plain_netlist f.left) (plain_netlist f.right) left_by right_by
 
+-- devices below circuit k of two aligned netlists that the pairings pair; where alike ones are made
+-- one once more, by way of those that they become
+abbrev pub AreDevicesAnswered : Bool → Netlist → Netlist → (ℕ → Pairing) → ℕ → Slot → Slot → Type 0
+AreDevicesAnswered false left right pairings k = AreDevicesPaired left pairings k
+AreDevicesAnswered true left right pairings k = AreDevicesPairedAgain left right pairings k
+
 module _ {d : Linked} {r : Rules} {unit : ℕ} {layout : Netlist} {top : ℕ} {schematic : Netlist}
     {f : Compared} (m : Matching d r unit layout top schematic f) where
   -- a device below the top of the layout's netlist as it is compared, and the one that the reported
-  -- pairings take it to
+  -- pairings take it to where both stand in the aligned netlists
   abbrev pub pairs : Slot → Slot → Type 0
-  pairs = AreDevicesMatched (compared_of r layout) (plain_netlist f.left) (plain_netlist f.right)
-      (compared_of r schematic) m.left_by m.right_by m.aligned.left_aligned m.aligned.right_aligned
-      (pairings_of (answers_of f)) top m.partner
+  pairs = Through (IsDeviceAligned (compared_of r layout) (plain_netlist f.left) m.left_by
+      m.aligned.left_aligned top)
+      (Through (AreDevicesAnswered f.merged_again (plain_netlist f.left) (plain_netlist f.right)
+      (pairings_of (answers_of f)) (m.left_by.number top))
+      (Reversed (IsDeviceAligned (compared_of r schematic) (plain_netlist f.right) m.right_by
+      m.aligned.right_aligned m.partner)))
 
   -- a gate of the flat layout, known by each of its squares, and the device of its cell's circuit
   abbrev pub gates : GateSquare → Slot → Type 0
@@ -76,9 +89,11 @@ module _ {d : Linked} {r : Rules} {unit : ℕ} {layout : Netlist} {top : ℕ} {s
   abbrev pub nets : Node → Slot → Type 0
   nets = Through
       (Reversed (IsFlatRegionOf (plain d) (wiring_of r) m.tables m.circuits layout top))
-      (AreNetsMatched (compared_of r layout) (plain_netlist f.left) (plain_netlist f.right)
-      (compared_of r schematic) m.left_by m.right_by m.aligned.left_aligned m.aligned.right_aligned
-      (pairings_of (answers_of f)) top m.partner)
+      (Through (IsNetAligned (compared_of r layout) (plain_netlist f.left) m.left_by
+      m.aligned.left_aligned top)
+      (Through (AreNetsPaired (left_answered f) (pairings_of (answers_of f)) (m.left_by.number top))
+      (Reversed (IsNetAligned (compared_of r schematic) (plain_netlist f.right) m.right_by
+      m.aligned.right_aligned m.partner))))
 
   -- where the rules say `same_pins`: a region that is a pin goes with a net of its name
   abbrev pub KeepsNames : (Node → Slot → Type 0) → Type 0
@@ -86,17 +101,11 @@ module _ {d : Linked} {r : Rules} {unit : ℕ} {layout : Netlist} {top : ℕ} {s
       → AreNamesKept (compared_of r layout) top (compared_of r schematic) m.partner
       (IsFlatRegionOf (plain d) (wiring_of r) m.tables m.circuits layout top) net
 
-  -- and so does a net below the top of the layout's netlist as it is compared
-  abbrev pub KeepsNetNames : (Slot → Slot → Type 0) → Type 0
-  KeepsNetNames net = r.tells_pins ≡ true
-      → AreNamesKept (compared_of r layout) top (compared_of r schematic) m.partner (λ a x. a ≡ x)
-      net
-
 -- No gate is bad, and the reported pairs compose to a one-to-one correspondence of the flat layout
 -- with the schematic, flattened from the top's partner: good gates with devices of their class and
 -- sizes, terminals with terminals, source and drain in either order, regions with nets, pins with
--- pins, of one name where the rules say `same_pins`. By rules that combine devices each class of alike ones is one on both sides, with the sum
--- of their widths, and no device is lost so.
+-- pins, of one name where the rules say `same_pins`. By rules that combine devices each class of
+-- alike ones is one on both sides, with the sum of their widths, and no device is lost so.
 pub record MatchesFlat (d : Linked) (r : Rules) (unit : ℕ) (layout : Netlist) (top : ℕ)
     (bad : List BadGate) (schematic : Netlist) (compared : Option Compared) : Type 0 where
   pub good : bad ≡ []

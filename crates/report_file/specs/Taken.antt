@@ -12,7 +12,7 @@ pub record IsTaken (r : Rules) (layout : Netlist) (top : ℕ) (schematic : Netli
     : Type 0 where
   pub same : List (List ℕ × List ℕ)
   pub turns : AreInTurns r layout top schematic same t.compared t.lines.items
-  pub comparison : IsComparison layout top schematic same r.max_guesses r.tells_pins t.compared
+  pub comparison : IsComparison r layout top schematic same t.compared
 
 -- the lines of the last comparison stand behind the earlier ones
 abbrev pub AddsLast : Rules → Compared → List ℕ → List ℕ → Type 0

@@ -5,7 +5,7 @@ use Rattle.std.specs.List.{filter, list_any}
 use Rattle.std.specs.Str.{bytes_eq}
 use Rattle.match_report.specs.Apart.{apart_texts, limit_text}
 use Rattle.match_report.specs.Pairs.{name_of}
-use Rattle.match_report.specs.Report.{answers_of, lefts_of, rights_of}
+use Rattle.match_report.specs.Report.{again_line, answers_of, lefts_of, rights_of}
 use Rattle.match_report.specs.declared.report.Compared.{Compared}
 use Rattle.net_align.specs.Compared.{IsTopPartner}
 use Rattle.net_model.specs.Rows.{plain_netlist}
@@ -63,11 +63,12 @@ abbrev pub EndsWith : Rules → Compared → List ℕ → Type 0
 EndsWith r f lines =
     (((r.flattens_unmatched ≡ false) ⊎ NoneGoes f) × (lines ≡ [])) ⊎ IsTooLarge r f lines
 
--- a turn: these pairs go, and each has its lines
+-- a turn: these pairs go, and each has its lines, behind one that says where devices were made one
+-- once more
 pub record IsTurn (r : Rules) (f : Compared) (goes : List Bool) (lines : List ℕ) : Type 0 where
   pub apart : AreTakenApart r f goes
   pub limit : IsLimit (plain_netlist f.left) (plain_netlist f.right) goes None
-  pub told : lines ≡ apart_texts (lefts_of f) (rights_of f) 0 goes (answers_of f)
+  pub told : lines ≡ again_line f.merged_again ++ apart_texts (lefts_of f) (rights_of f) 0 goes (answers_of f)
 
 -- so where there is a comparison; else there are no lines
 abbrev pub EndsAfter : Rules → Option Compared → List ℕ → Type 0
@@ -79,7 +80,7 @@ module _ (r : Rules) (layout : Netlist) (top : ℕ) (schematic : Netlist) (most 
   pub record IsComparedSo (alone : Names) (same : List (List ℕ × List ℕ)) (o : Option Compared)
       : Type 0 where
     pub told : same ≡ same_alone most alone r.same
-    pub comparison : IsComparison layout top schematic same r.max_guesses r.tells_pins o
+    pub comparison : IsComparison r layout top schematic same o
 
   -- the comparisons before the last one, where at first these circuits have no partner, and after
   -- each turn those of the pairs that went haven't either; and the lines of all turns

@@ -5,6 +5,7 @@ ghost use Rattle.match_report.specs.Report.{report};
 ghost use Rattle.net_align.specs.Compared.{AreCalleesFirst, IsAlignable};
 ghost use Rattle.net_model.specs.Rows.{plain_netlist};
 ghost use Rattle.pair_jobs.specs.Verdict.{IsRunVerdict};
+ghost use Rattle.report_file.specs.Combined.{AreNarrow};
 ghost use Rattle.report_file.specs.File.{IsReportFile, all_answers, pair_count};
 ghost use Rattle.rule_text.specs.Seen.{rules_seen};
 ghost use Rattle.rule_text.specs.Sound.{IsSound};
@@ -108,6 +109,8 @@ pub fn report_file<R: Threads + Wait + Sync, G: Gate + Sync>(
     requires order { AreCalleesFirst (plain_netlist found.now.netlist.now) }
     requires top { found.now.top < length found.now.netlist.now.circuits.items }
     requires cells { All (λ x. x.cell < length design.now.cells) found.now.bad.now }
+    requires narrow { AreNarrow (rules_seen rules.now) (plain_netlist found.now.netlist.now)
+        (plain_netlist schematic.now) }
     ensures { IfOk result (λ x. IsReportFile design.now (rules_seen rules.now)
         (plain_netlist found.now.netlist.now) found.now.top found.now.bad.now
         (plain_netlist schematic.now) x.text.items x.pairs x.verdict) }

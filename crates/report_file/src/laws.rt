@@ -5,8 +5,8 @@ ghost use Rattle.report_file.specs.Matched.{MatchedReportLaw, MatchingLaw};
 ghost use Rattle.report_file.specs.Named.{TopPartnerLaw};
 ghost use Rattle.report_file.specs.One.{OneReportLaw};
 ghost use Rattle.report_file.specs.Partner.{LastPartnerLaw};
-ghost use Rattle.report_file.specs.Verdicts.{BadGateLaw, CarriedPairLaw, KeptPairLaw, UndecidedLaw};
-ghost use Rattle.report_file.specs.Verdicts.{UnevenPairLaw};
+ghost use Rattle.report_file.specs.Verdicts.{AsBeforeLaw, BadGateLaw, CarriedPairLaw, KeptPairLaw};
+ghost use Rattle.report_file.specs.Verdicts.{UndecidedLaw, UnevenPairLaw};
 
 use crate::alignable::combined_alignable;
 use align_laws::pairs;
@@ -47,15 +47,15 @@ pub fn matching()
 {}
 
 /// Where what differs is taken apart, a mismatch without bad gates says that the flat layout
-/// corresponds to the flattened schematic in no way, unless a turn would have been too large. By
-/// rules that combine devices it says so of the layout's circuits and the schematic's, in each of
-/// which each group of alike ones is one.
+/// corresponds to the flattened schematic in no way, unless a turn would have been too large; by
+/// rules that combine devices, where each class of alike ones is one on both sides.
 pub fn exact_report()
     ensures { ExactReportLaw }
 {
     combined_alignable();
     flat_layouts();
     pairs();
+    answers();
     pair_answers();
 }
 
@@ -80,6 +80,15 @@ pub fn report_verdicts()
     device_counts();
     pair_answers();
     verdicts();
+}
+
+/// Where the rules don't say to make devices one once more, or no pair differs without, the answers
+/// of a report are those of the circuits as they are.
+pub fn as_before()
+    ensures { AsBeforeLaw }
+{
+    pairs();
+    answers();
 }
 
 /// Beside the layout's top, a report names the top's partner in the schematic.

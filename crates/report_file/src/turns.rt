@@ -1,12 +1,15 @@
 //! Layout and schematic compared in turns.
-ghost use Rattle.std.specs.Prelude.{◌≡◌, ◌<◌, ◌++◌, IfOk, IfSome, IsNone, length, slice_get};
+ghost use Rattle.std.specs.Prelude.{◌≡◌, ◌<◌, ◌++◌, IfOk, IfSome, IsNone, OnOk, length, slice_get};
 ghost use Rattle.align_laws.specs.Partners.{AreSides};
+ghost use Rattle.match_report.specs.Apart.{apart_texts};
 ghost use Rattle.match_report.specs.Pairs.{name_of};
+ghost use Rattle.match_report.specs.Report.{again_line, answers_of, lefts_of, rights_of};
 ghost use Rattle.net_align.specs.Compared.{AreCalleesFirst, IsAlignable};
 ghost use Rattle.net_align.specs.Names.{left_names, right_names};
 ghost use Rattle.net_model.specs.Rows.{plain_netlist};
 ghost use Rattle.pair_turns.specs.Seen.{names_in};
 ghost use Rattle.plain_netlist.specs.Lists.{AreApart};
+ghost use Rattle.report_file.specs.Combined.{AreNarrow, merges_again};
 ghost use Rattle.report_file.specs.Compared.{IsComparison};
 ghost use Rattle.report_file.specs.Turns.{IsAloneByRules, others, others_at};
 ghost use Rattle.report_file.specs.Taken.{AddsLast, AddsTurn, IsTaken};
@@ -15,7 +18,7 @@ ghost use Rattle.rule_text.specs.Sound.{IsSound};
 
 use job_board::{Crew, Gate};
 use match_flow::{Comparison, Settings, compare};
-use match_report::{Compared, push_apart, push_limit};
+use match_report::{Compared, push_again, push_apart, push_limit};
 use net_align::partner_of_top;
 use net_model::Netlist;
 use net_names::{Name, folded};
@@ -34,35 +37,55 @@ pub struct Turns {
     pub compared: Option<Compared>,
 }
 
-// Layout and schematic compared, in the form that a report has.
-fn compare_netlists<R: Threads + Wait + Sync, G: Gate + Sync>(
+// Whether the rules combine devices and flatten circuits.
+fn merges_again(rules: &RuleSet) -> bool
+    ensures { result ≡ merges_again (rules_seen rules.now) }
+{
+    let names_none = rules.flat_layouts.is_empty() && rules.flat_schematics.is_empty();
+    rules.combine && (rules.flattens_unmatched || !names_none)
+}
+
+// Layout and schematic compared by the rules, in the form that a report has; partners are as these
+// lines say.
+fn compare_by<R: Threads + Wait + Sync, G: Gate + Sync>(
     alloc: Global,
+    rules: &RuleSet,
     layout: &Netlist,
     top: u32,
     schematic: &Netlist,
-    settings: &Settings<'_>,
+    same: &[(Name, Name)],
     crew: &Crew<R, G>,
 ) -> Result<Option<Compared>, AllocError>
     requires layout { IsAlignable (plain_netlist layout.now) }
     requires schematic { IsAlignable (plain_netlist schematic.now) }
     requires order { AreCalleesFirst (plain_netlist layout.now) }
     requires top { top < length layout.now.circuits.items }
-    requires lefts { AreApart (left_names settings.now.same.now) }
-    requires rights { AreApart (right_names settings.now.same.now) }
-    ensures { IfOk result (IsComparison (plain_netlist layout.now) top (plain_netlist schematic.now)
-        settings.now.same.now settings.now.limit settings.now.same_pins) }
+    requires lefts { AreApart (left_names same.now) }
+    requires rights { AreApart (right_names same.now) }
+    requires narrow { AreNarrow (rules_seen rules.now) (plain_netlist layout.now)
+        (plain_netlist schematic.now) }
+    ensures { IfOk result (IsComparison (rules_seen rules.now) (plain_netlist layout.now) top
+        (plain_netlist schematic.now) same.now) }
 {
-    let Some(found) = compare(alloc, layout, top, schematic, settings, crew)? else {
+    let settings = Settings {
+        same,
+        limit: rules.max_guesses,
+        same_pins: rules.tells_pins,
+        merges_again: merges_again(rules),
+    };
+    let Some(found) = compare(alloc, layout, top, schematic, &settings, crew)? else {
         return Ok(None);
     };
     let Comparison {
         left,
         right,
+        merged_again,
         answers,
     } = found;
     Ok(Some(Compared {
         left,
         right,
+        merged_again,
         answers,
     }))
 }
@@ -129,6 +152,28 @@ fn alone_by_rules(
     Ok(Alone { lefts, rights })
 }
 
+// The lines of a turn, in which these pairs go.
+fn push_turn(
+    alloc: Global,
+    lines: &mut Vec<u8>,
+    found: &Compared,
+    goes: &[bool],
+) -> Result<(), AllocError>
+    requires { length goes.now ≡ length found.now.answers }
+    ensures { OnOk result (lines.new.items ≡ lines.old.items
+        ++ (again_line found.now.merged_again ++ apart_texts (lefts_of found.now)
+        (rights_of found.now) 0 goes.now (answers_of found.now))) }
+{
+    let Compared {
+        left,
+        right,
+        merged_again,
+        answers,
+    } = found;
+    push_again(lines, *merged_again)?;
+    push_apart(alloc, lines, &left.circuits, &right.circuits, goes, answers)
+}
+
 // The marks of the pairs that are taken apart after a comparison, with their lines added; none
 // where it is the last one, which has a line where a circuit would become too large.
 fn take_apart(
@@ -144,37 +189,26 @@ fn take_apart(
     ensures turn { IfOk result (λ next. IfSome next (λ goes.
         AddsTurn (rules_seen rules.now) found.now goes.items lines.old.items lines.new.items)) }
 {
-    let Compared {
-        left,
-        right,
-        answers,
-    } = found;
     if !rules.flattens_unmatched {
         return Ok(None);
     }
-    let goes = going(alloc, left, right, answers)?;
+    let goes = going(alloc, &found.left, &found.right, &found.answers)?;
     if !is_any(&goes) {
         return Ok(None);
     }
-    if let Some(k) = first_over(alloc, left, right, &goes)? {
-        push_limit(alloc, lines, &left.circuits, k)?;
+    if let Some(k) = first_over(alloc, &found.left, &found.right, &goes)? {
+        push_limit(alloc, lines, &found.left.circuits, k)?;
         return Ok(None);
     }
-    push_apart(
-        alloc,
-        lines,
-        &left.circuits,
-        &right.circuits,
-        &goes,
-        answers,
-    )?;
+    push_turn(alloc, lines, found, &goes)?;
     Ok(Some(goes))
 }
 
 /// The comparisons of a layout, below its top, with a schematic, one after the other. Partners, the
 /// limit of refuted guesses in each pair, and whether names tell the tops' pins apart, are those of
-/// the rules. Where the rules say so, after a comparison with pairs that differ, those that `going`
-/// tells are taken apart, and both netlists are compared again, until none differs or all is flat,
+/// the rules. Where the rules combine devices and flatten circuits, `compare` makes alike transistors
+/// one once more. Where the rules say so, after a comparison with pairs that differ, those that
+/// `going` tells are taken apart, and both netlists are compared again, until none differs or all is flat,
 /// or a circuit would have more than 2^24 devices and calls. An `Err` is want of memory, or 2^32
 /// pairs or more. Cost: that of each comparison, of which there are at most as many as circuits of
 /// the layout.
@@ -191,6 +225,8 @@ pub fn compare_in_turns<R: Threads + Wait + Sync, G: Gate + Sync>(
     requires schematic { IsAlignable (plain_netlist schematic.now) }
     requires order { AreCalleesFirst (plain_netlist layout.now) }
     requires top { top < length layout.now.circuits.items }
+    requires narrow { AreNarrow (rules_seen rules.now) (plain_netlist layout.now)
+        (plain_netlist schematic.now) }
     ensures { IfOk result (IsTaken (rules_seen rules.now) (plain_netlist layout.now) top
         (plain_netlist schematic.now)) }
 {
@@ -200,12 +236,7 @@ pub fn compare_in_turns<R: Threads + Wait + Sync, G: Gate + Sync>(
     let mut lines = Vec::new(alloc);
     'turns: loop {
         let same = same_alone(alloc, &rules.same, &alone, most)?;
-        let settings = Settings {
-            same: &same,
-            limit: rules.max_guesses,
-            same_pins: rules.tells_pins,
-        };
-        let Some(found) = compare_netlists(alloc, layout, top, schematic, &settings, crew)? else {
+        let Some(found) = compare_by(alloc, rules, layout, top, schematic, &same, crew)? else {
             return Ok(Turns {
                 lines,
                 compared: None,

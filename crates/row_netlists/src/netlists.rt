@@ -1,6 +1,10 @@
 //! What is left of netlists by the commands over them.
 
-ghost use Rattle.std.specs.Prelude.{◌≤◌};
+ghost use Rattle.std.specs.Prelude.{◌≡◌, ◌≤◌, true, IfOk};
+ghost use Rattle.device_merge.specs.Merged.{IsNarrow};
+ghost use Rattle.net_model.specs.Rows.{plain_netlist};
+ghost use Rattle.plain_netlist.specs.Normal.{IsNormalNetlist};
+ghost use Rattle.plain_netlist.specs.Sound.{IsSoundNetlist};
 
 use crate::conditions::{are_apart, are_callees_first, is_alignable, read};
 use device_merge::{MergeFault, merge};
@@ -25,11 +29,13 @@ pub struct Netlists<'a> {
 }
 
 // What the words behind a command ask: the number of the top, the most guesses that are refuted,
-// whether names tell the tops' pins apart, and the names of a line `same_circuits`.
+// whether names tell the tops' pins apart, whether alike devices are made one before netlists are
+// aligned and once more where pairs differ, and the names of a line `same_circuits`.
 struct Asked {
     top: u32,
     guesses: u32,
     same_pins: bool,
+    combine: bool,
     same: Vec<(Name, Name)>,
 }
 
@@ -40,6 +46,7 @@ impl Drop for Asked {
             top: _,
             guesses: _,
             same_pins: _,
+            combine: _,
             same: _,
         } = self;
     }
@@ -67,7 +74,8 @@ fn same_of(alloc: Global, fields: &mut Fields<'_>) -> Result<Vec<(Name, Name)>, 
     Ok(same)
 }
 
-// `TOP`, and behind it where they are said `guesses COUNT`, `same_pins`, `same NAME NAME`.
+// `TOP`, and behind it where they are said `guesses COUNT`, `same_pins`, `combine`,
+// `same NAME NAME`.
 fn asked_of(alloc: Global, fields: &mut Fields<'_>) -> Result<Asked, RowFault> {
     let top = count_of(fields)?;
     let guesses = if fields.takes(b"guesses") {
@@ -76,10 +84,12 @@ fn asked_of(alloc: Global, fields: &mut Fields<'_>) -> Result<Asked, RowFault> {
         0
     };
     let same_pins = fields.takes(b"same_pins");
+    let combine = fields.takes(b"combine");
     Ok(Asked {
         top,
         guesses,
         same_pins,
+        combine,
         same: same_of(alloc, fields)?,
     })
 }
@@ -119,9 +129,16 @@ fn aligned<R: Threads>(
     }
 }
 
-// The answer of each pair, a line each.
-fn answer_lines(alloc: Global, answers: &Results<Answer>) -> Result<Vec<u8>, RowFault> {
+// The answer of each pair, a line each, behind a line where the circuits were merged once more.
+fn answer_lines(
+    alloc: Global,
+    merged_again: bool,
+    answers: &Results<Answer>,
+) -> Result<Vec<u8>, RowFault> {
     let mut text = Vec::new(alloc);
+    if merged_again {
+        text.extend_from_slice(b"combined again\n")?;
+    }
     for pair in 0..answers.len() {
         let Ok(place) = u32::try_from(pair) else {
             return Err(RowFault::Unclear);
@@ -130,6 +147,35 @@ fn answer_lines(alloc: Global, answers: &Results<Answer>) -> Result<Vec<u8>, Row
         text.extend_from_slice(line.as_bytes())?;
     }
     Ok(text)
+}
+
+// A netlist with each group of alike devices as one.
+fn merged(alloc: Global, n: &Netlist) -> Result<Netlist, RowFault>
+    requires sound { IsSoundNetlist (plain_netlist n.now) }
+    requires normal { IsNormalNetlist (plain_netlist n.now) }
+    ensures sound { IfOk result (λ m. IsSoundNetlist (plain_netlist m)) }
+    ensures normal { IfOk result (λ m. IsNormalNetlist (plain_netlist m)) }
+    ensures narrow { IfOk result (λ m. IsNarrow (plain_netlist m)) }
+{
+    match merge(alloc, n) {
+        Ok(merged) => Ok(merged),
+        Err(MergeFault::TooWide(_)) => Err(RowFault::Unclear),
+        Err(MergeFault::NoMemory) => Err(RowFault::NoMemory),
+    }
+}
+
+// A netlist as it is compared.
+fn read_side(alloc: Global, text: &[u8], combine: bool) -> Result<Netlist, RowFault>
+    ensures sound { IfOk result (λ n. IsSoundNetlist (plain_netlist n)) }
+    ensures normal { IfOk result (λ n. IsNormalNetlist (plain_netlist n)) }
+    ensures narrow { IfOk result (λ n. combine ≡ true → IsNarrow (plain_netlist n)) }
+{
+    let given = read(alloc, text)?;
+    if !combine {
+        return Ok(given);
+    }
+    let made = merged(alloc, &given)?;
+    Ok(made)
 }
 
 // The answers of both netlists compared by so many workers; none where the top has no partner.
@@ -142,8 +188,8 @@ fn compared<R: Threads + Wait + Sync>(
 ) -> Result<Option<Vec<u8>>, RowFault>
     requires { (1 ≤ workers) × (workers ≤ 64) }
 {
-    let layout = read(alloc, netlists.extracted)?;
-    let schematic = read(alloc, netlists.schematic)?;
+    let layout = read_side(alloc, netlists.extracted, asked.combine)?;
+    let schematic = read_side(alloc, netlists.schematic, asked.combine)?;
     if !is_alignable(&layout)
         || !is_alignable(&schematic)
         || !are_callees_first(&layout)
@@ -156,11 +202,15 @@ fn compared<R: Threads + Wait + Sync>(
         same: &asked.same,
         limit: asked.guesses,
         same_pins: asked.same_pins,
+        merges_again: asked.combine,
     };
     let crew = Crew::new(rt, workers, &OpenGate);
     let found = compare(alloc, &layout, asked.top, &schematic, &settings, &crew)?;
     match found {
-        Some(made) => Ok(Some(answer_lines(alloc, &made.answers)?)),
+        Some(made) => {
+            let lines = answer_lines(alloc, made.merged_again, &made.answers)?;
+            Ok(Some(lines))
+        }
         None => Ok(None),
     }
 }
@@ -228,16 +278,13 @@ fn run_cards(alloc: Global, schematic: &[u8]) -> Result<Ran, RowFault> {
 
 fn run_merge(alloc: Global, schematic: &[u8]) -> Result<Ran, RowFault> {
     let given = read(alloc, schematic)?;
-    match merge(alloc, &given) {
-        Ok(merged) => left(alloc, Some(write_spice(alloc, &merged)?), None),
-        Err(MergeFault::TooWide(_)) => Err(RowFault::Unclear),
-        Err(MergeFault::NoMemory) => Err(RowFault::NoMemory),
-    }
+    let made = merged(alloc, &given)?;
+    left(alloc, Some(write_spice(alloc, &made)?), None)
 }
 
 /// What a command over netlists leaves: `cards`, the schematic written; `merge`, alike devices of
 /// it made one; `align TOP same NAME NAME`, the netlist and the schematic aligned, both as one
-/// text; `compare TOP guesses COUNT same_pins`, the answer of each pair as the report. All behind
+/// text; `compare TOP guesses COUNT same_pins combine`, the answer of each pair as the report. All behind
 /// the top's number may be left out. A row whose texts differ by workers or by writing twice isn't
 /// clear.
 pub fn run_on_netlists<R: Threads + Wait + Sync>(

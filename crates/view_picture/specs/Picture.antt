@@ -86,6 +86,21 @@ AreAllJoined xs ds (o ∷ os) (c ∷ cs) areas [] = ⊥
 AreAllJoined xs ds (o ∷ os) (c ∷ cs) areas (v ∷ vs) =
     IsJoinedIn xs ds o c areas v × AreAllJoined xs ds os cs areas vs
 
+-- what is drawn of a circuit that is answered as another one, with as many nets and calls: all of
+-- it, with the places of the other's devices
+pub record IsPlacedAs (answered left : Circuit) (d v : Drawn) : Type 0 where
+  pub places : AreDevicePlaces answered.devices left.devices d.devices v.devices
+  pub rest : v ≡ with_devices v.devices d
+
+-- so of each of these circuits, as far as something is drawn
+abbrev pub AreAllPlaced : List Circuit → List Circuit → List Drawn → List Drawn → Type 0
+AreAllPlaced answered lefts [] vs = vs ≡ []
+AreAllPlaced [] lefts (d ∷ ds) vs = vs ≡ []
+AreAllPlaced (a ∷ ms) [] (d ∷ ds) vs = vs ≡ []
+AreAllPlaced (a ∷ ms) (c ∷ cs) (d ∷ ds) [] = ⊥
+AreAllPlaced (a ∷ ms) (c ∷ cs) (d ∷ ds) (v ∷ vs) =
+    IsPlacedAs a c d v × AreAllPlaced ms cs ds vs
+
 -- the regions of a picture
 abbrev pub shown_area : Region → Area
 shown_area r = record { class = class_in r; rects = r.rects.items }
@@ -133,3 +148,10 @@ pub record IsDrawable (g : Given) : Type 0 where
   pub entries : AreAllThere g.source
   pub lists : AreListsOf g.source g.lists.now
   pub cells : (k cell : ℕ) → slice_get g.cells.now k ≡ Some cell → IsReachedIn g cell
+
+-- the picture of aligned circuits as they are answered: the same with the places of their devices
+pub record IsAnsweredPicture (answered lefts : List Circuit) (p q : Picture) : Type 0 where
+  pub names : q.names ≡ p.names
+  pub regions : q.regions ≡ p.regions
+  pub drawings : AreAllPlaced answered lefts (plain_drawings p.drawings.items)
+      (plain_drawings q.drawings.items)

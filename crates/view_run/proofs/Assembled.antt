@@ -36,7 +36,7 @@ use Rattle.view_run.specs.Lines.{view_line}
 use Rattle.view_drawing.specs.Devices.{areas_of}
 use Rattle.view_drawing.specs.declared.source.Source.{Source}
 use Rattle.view_picture.specs.declared.drawings.Sketch.{Sketch}
-use Rattle.view_run.specs.Views.{AreCellsOf, ArePictured, AreRowsOf, IsNetlistFound, IsPageAsked, IsView, names_of, shown_left, shown_lefts, shown_logs, shown_rights, view_answer}
+use Rattle.view_run.specs.Views.{AreCellsOf, ArePictured, AreShown, IsNetlistFound, IsView, names_of, shown_left, shown_lefts, shown_logs, shown_rights, view_answer}
 use Rattle.view_run.specs.Far.{HasFarAligned, HasFarBy, IsTooFar, NotMade}
 use Rattle.view_run.specs.Far as refusals
 use Rattle.view_run.specs.Sketched.{IsSketchOf}
@@ -109,17 +109,15 @@ module _ (l : Layout) (r : Rules) (schematic : Netlist) (f : Found) (found : Has
   not_made e (Memory same) = refusals.Memory same
 
   -- ---- what is made over the netlists that are compared
-  module _ (t : Turns) (p : Picture) (rows : List (List Row)) (paged : Bool) (text : List ℕ) (page : Option (List ℕ)) where
+  module _ (t : Turns) (p : Picture) (paged : Bool) (text : List ℕ) (page : Option (List ℕ)) where
     pub record Made (one other : Netlist) : Type 0 where
       pub taken : IsTaken r one f.top other t
       pub drawn : ArePictured l r f.cells (names_of (plain_netlist f.netlist)) one (shown_left one t.compared) p
-      pub database : IsDatabase (cell_name (cell_at l.design l.design.top)) (l.header.unit_pm * 1000) r p (shown_logs (gate_log l.design (name_of (slice_get one.circuits f.top)) f.bad.items) t.compared)
-          (shown_lefts one t.compared) (shown_rights other t.compared) rows (all_answers t.compared) text
-      pub page_is : IsPageAsked paged l.header.unit_pm p (shown_lefts one t.compared) (shown_rights other t.compared) rows page
+      pub written : AreShown l r p one other t.compared f.top f.bad.items paged text page
 
     pub is_view : (b : Both) (v : Verdict) (line : List ℕ) → AreCompared r (plain_netlist f.netlist) schematic b → Made (plain_netlist b.layout) (plain_netlist b.schematic) → IsRunVerdict (length f.bad.items) (all_answers t.compared) v
-        → AreRowsOf r t.compared rows → line ≡ view_line v (length (plain_netlist f.netlist).circuits) (pair_count t.compared) (length f.bad.items) → IsView l r schematic paged v text page line
-    is_view b v line both made verdict proposed line_is =
+        → line ≡ view_line v (length (plain_netlist f.netlist).circuits) (pair_count t.compared) (length f.bad.items) → IsView l r schematic paged v text page line
+    is_view b v line both made verdict line_is =
         let nl = plain_netlist f.netlist in
         let m = subst (λ (n : Netlist). Made (compared_of r nl) n) both.schematic_is (subst (λ (n : Netlist). Made n (plain_netlist b.schematic)) both.layout_is made) in
         let d = m.drawn in
@@ -141,10 +139,7 @@ module _ (l : Layout) (r : Rules) (schematic : Netlist) (f : Found) (found : Has
           verdict = verdict;
           picture = p;
           drawn = d.picture;
-          rows = rows;
-          proposed = proposed;
-          database = m.database;
-          page_is = m.page_is;
+          written = m.written;
           line_is = line_is;
         }
 

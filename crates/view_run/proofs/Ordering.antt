@@ -1,5 +1,5 @@
 -- What is shown of a schematic can be ordered by its calls.
-use Rattle.std.proofs.Common.{◌≡◌, ℕ, Bool, List, Option, Some, None, subst}
+use Rattle.std.proofs.Common.{◌≡◌, ℕ, List, Option, Some, None, subst}
 use Rattle.std.proofs.lemmas.Option.{slice_get_within}
 use Rattle.match_report.specs.Report.{rights_of}
 use Rattle.match_report.specs.declared.report.Compared.{Compared}
@@ -10,6 +10,7 @@ use Rattle.plain_netlist.specs.Netlist.{Netlist}
 use Rattle.plain_netlist.specs.Sound.{CircuitCycle, IsGood, IsSoundNetlist}
 use Rattle.plain_netlist.proofs.Heights.{no_fault_in_good}
 use Rattle.report_file.specs.Compared.{IsComparison}
+use Rattle.rule_text.specs.Rules.{Rules}
 use Rattle.align_laws.proofs.Sides.{aligned_sides}
 use Rattle.view_run.specs.Views.{CanBeOrdered, shown_rights}
 
@@ -27,10 +28,10 @@ good_ordered nl height h = record {
   no_cycle = λ k turns. no_fault_in_good nl height CircuitCycle k h (λ e. absurd cc) ((cycles_law nl k).0 turns);
 }
 
-pub shown_ordered : (layout : Netlist) (top : ℕ) (schematic : Netlist) (same : List (List ℕ × List ℕ)) (limit : ℕ) (same_pins : Bool) (o : Option Compared) → IsSoundNetlist schematic
-    → IsComparison layout top schematic same limit same_pins o → CanBeOrdered (shown_rights schematic o)
-shown_ordered layout top schematic same limit same_pins None sound h = sound_ordered schematic sound
-shown_ordered layout top schematic same limit same_pins (Some f) sound h =
+pub shown_ordered : (r : Rules) (layout : Netlist) (top : ℕ) (schematic : Netlist) (same : List (List ℕ × List ℕ)) (o : Option Compared) → IsSoundNetlist schematic
+    → IsComparison r layout top schematic same o → CanBeOrdered (shown_rights schematic o)
+shown_ordered r layout top schematic same None sound h = sound_ordered schematic sound
+shown_ordered r layout top schematic same (Some f) sound h =
     let a = h.0 in
     let good = (aligned_sides layout schematic top a.right_top same (plain_netlist f.left) (plain_netlist f.right) a.left_by a.right_by a.are).right_good in good_ordered (plain_netlist f.right) good.0 good.1
 

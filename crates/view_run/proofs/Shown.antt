@@ -1,8 +1,9 @@
 -- What is shown of a comparison: its circuits stand in pairs, those of the layout behind the ones
 -- that they call.
-use Rattle.std.proofs.Common.{◌≡◌, ℕ, Bool, List, Option, Some, None, length, map, arith, ap, sym, subst}
+use Rattle.std.proofs.Common.{◌≡◌, ℕ, List, Option, Some, None, length, map, arith, ap, sym, subst}
 use Rattle.std.proofs.lemmas.Option.{slice_get_within}
 use Rattle.align_laws.proofs.Sides.{aligned_sides, ordered}
+use Rattle.match_report.specs.Report.{answers_of}
 use Rattle.match_report.specs.declared.report.Compared.{Compared}
 use Rattle.net_model.specs.Rows.{plain_circuit, plain_netlist}
 use Rattle.net_model.specs.declared.netlist.Circuit.{Circuit as CodeCircuit}
@@ -10,22 +11,25 @@ use Rattle.net_model.specs.declared.netlist.Netlist.{Netlist as Code}
 use Rattle.pair_turns.proofs.Sides.{same_count}
 use Rattle.plain_netlist.specs.Netlist.{Netlist}
 use Rattle.plain_netlist.specs.Sound.{IsGood}
+use Rattle.report_file.proofs.AsAnswered.{answer_count}
+use Rattle.report_file.specs.Combined.{merges_again}
 use Rattle.report_file.specs.Compared.{IsComparison}
+use Rattle.rule_text.specs.Rules.{Rules}
 use Rattle.view_cross.specs.Whole.{AreWhole}
 use Rattle.view_cross.specs.declared.rows.Row.{Row}
 use Rattle.view_run.specs.Views.{AreAllPaired, AreWholeRows, ArePaired, shown_left, shown_lefts, shown_rights}
 
-pub all_paired : (layout : Netlist) (top : ℕ) (schematic : Netlist) (same : List (List ℕ × List ℕ)) (limit : ℕ) (same_pins : Bool) (o : Option Compared) → IsComparison layout top schematic same limit same_pins o → AreAllPaired o
-all_paired layout top schematic same limit same_pins None h = tt
-all_paired layout top schematic same limit same_pins (Some f) h =
+pub all_paired : (r : Rules) (layout : Netlist) (top : ℕ) (schematic : Netlist) (same : List (List ℕ × List ℕ)) (o : Option Compared) → IsComparison r layout top schematic same o → AreAllPaired o
+all_paired r layout top schematic same None h = tt
+all_paired r layout top schematic same (Some f) h =
     let a = h.0 in
     let sides = aligned_sides layout schematic top a.right_top same (plain_netlist f.left) (plain_netlist f.right) a.left_by a.right_by a.are in
-    record { rights = sym (same_count (plain_netlist f.left) (plain_netlist f.right) sides); answers = h.1.count }
+    record { rights = sym (same_count (plain_netlist f.left) (plain_netlist f.right) sides); answers = answer_count (merges_again r) r.max_guesses r.tells_pins (plain_netlist f.left) (plain_netlist f.right) f.merged_again (answers_of f) h.1 }
 
-pub left_good : (layout : Netlist) (top : ℕ) (schematic : Netlist) (same : List (List ℕ × List ℕ)) (limit : ℕ) (same_pins : Bool) (o : Option Compared) → IsGood layout (λ k. k) → IsComparison layout top schematic same limit same_pins o
+pub left_good : (r : Rules) (layout : Netlist) (top : ℕ) (schematic : Netlist) (same : List (List ℕ × List ℕ)) (o : Option Compared) → IsGood layout (λ k. k) → IsComparison r layout top schematic same o
     → IsGood (shown_left layout o) (λ k. k)
-left_good layout top schematic same limit same_pins None good h = good
-left_good layout top schematic same limit same_pins (Some f) good h =
+left_good r layout top schematic same None good h = good
+left_good r layout top schematic same (Some f) good h =
     let a = h.0 in ordered layout schematic top a.right_top same (plain_netlist f.left) (plain_netlist f.right) a.left_by a.right_by good a.are
 
 -- the rows of what was compared have each node once, whatever is shown where nothing was

@@ -9,3 +9,4 @@ pub mod Sketched
 pub mod Far
 pub mod Runs
 pub mod Stated
+pub mod Answered

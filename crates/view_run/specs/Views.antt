@@ -23,6 +23,7 @@ use Rattle.match_report.specs.Gates.{name_of as cell_name}
 use Rattle.match_report.specs.Pairs.{name_of}
 use Rattle.match_report.specs.Report.{answers_of, lefts_of, rights_of}
 use Rattle.match_report.specs.declared.report.Compared.{Compared}
+use Rattle.merge_laws.specs.Grouped.{merged_netlist}
 use Rattle.net_model.specs.Faults.{called_by}
 use Rattle.pair_jobs.specs.Verdict.{IsRunVerdict}
 use Rattle.pair_jobs.specs.declared.verdict.Verdict.{Verdict}
@@ -49,7 +50,7 @@ use Rattle.view_labels.specs.Logs.{gate_log, pair_logs}
 use Rattle.view_page.specs.Page.{IsPage, book}
 use Rattle.view_page.specs.declared.places.Places.{Places}
 use Rattle.view_pairs.specs.Proposals.{AreProposed}
-use Rattle.view_picture.specs.Picture.{IsPicture}
+use Rattle.view_picture.specs.Picture.{IsAnsweredPicture, IsPicture}
 use Rattle.view_shapes.specs.declared.pieces.ShowFault.{ShowFault}
 use Rattle.view_shapes.specs.declared.pieces.ShowFault.TheVariants as fault
 use Rattle.view_run.specs.declared.found.Cells.{Cells}
@@ -182,6 +183,24 @@ IsPageAsked false unit p lefts rights rows page = page ≡ None
 IsPageAsked true unit p lefts rights rows page =
     (text : List ℕ) × (page ≡ Some text) × IsPageOf unit p lefts rights rows text
 
+-- the circuits were merged once more before they were answered
+abbrev pub again_in : Option Compared → Bool
+again_in None = false
+again_in (Some c) = c.merged_again
+
+-- the same answers, over both sides merged once more
+pub record IsMergedAgain (c a : Compared) : Type 0 where
+  pub left : plain_netlist a.left ≡ merged_netlist (plain_netlist c.left)
+  pub right : plain_netlist a.right ≡ merged_netlist (plain_netlist c.right)
+  pub answers : a.answers ≡ c.answers
+
+-- what is shown of what was compared, over the picture of the aligned circuits: their circuits as
+-- they were answered, and the picture of those
+pub data IsShown (o s : Option Compared) (p q : Picture) : Type 0 where
+  AsAligned : again_in o ≡ false → s ≡ o → q ≡ p → IsShown o s p q
+  Again : (c a : Compared) → o ≡ Some c → c.merged_again ≡ true → s ≡ Some a → IsMergedAgain c a
+      → IsAnsweredPicture (lefts_of a) (lefts_of c) p q → IsShown o s p q
+
 -- of what was compared, over this picture, the text is the database, and the page is the page if it
 -- is asked for
 pub record AreWritten (l : Layout) (r : Rules) (p : Picture) (one two : Netlist)
@@ -195,6 +214,15 @@ pub record AreWritten (l : Layout) (r : Rules) (p : Picture) (one two : Netlist)
       (shown_lefts one compared) (shown_rights two compared) rows (all_answers compared) text
   pub page_is : IsPageAsked paged l.header.unit_pm p (shown_lefts one compared)
       (shown_rights two compared) rows page
+
+-- the same of the circuits as they were answered, over the picture of the aligned ones
+pub record AreShown (l : Layout) (r : Rules) (p : Picture) (one two : Netlist)
+    (compared : Option Compared) (top : ℕ) (bad : List BadGate) (paged : Bool)
+    (text : List ℕ) (page : Option (List ℕ)) : Type 0 where
+  pub shown : Option Compared
+  pub picture : Picture
+  pub is : IsShown compared shown p picture
+  pub written : AreWritten l r picture one two shown top bad paged text page
 
 -- the text is the database of the layout and the schematic by the rules, the page is the page of
 -- them if it is asked for, v is what they come to, and the line says so
@@ -215,17 +243,7 @@ pub record IsView (l : Layout) (r : Rules) (schematic : Netlist) (paged : Bool) 
   pub picture : Picture
   pub drawn : IsPictureOf l r source cells (names_of netlist) (compared_of r netlist)
       (shown_left (compared_of r netlist) turns.compared) picture
-  pub rows : List (List Row)
-  pub proposed : AreRowsOf r turns.compared rows
-  pub database : IsDatabase (cell_name (cell_at l.design l.design.top))
-      (l.header.unit_pm * 1000) r picture
-      (shown_logs (gate_log l.design (name_of (slice_get (compared_of r netlist).circuits top)) bad)
-      turns.compared)
-      (shown_lefts (compared_of r netlist) turns.compared)
-      (shown_rights (compared_of r schematic) turns.compared)
-      rows (all_answers turns.compared) text
-  pub page_is : IsPageAsked paged l.header.unit_pm picture
-      (shown_lefts (compared_of r netlist) turns.compared)
-      (shown_rights (compared_of r schematic) turns.compared) rows page
+  pub written : AreShown l r picture (compared_of r netlist) (compared_of r schematic)
+      turns.compared top bad paged text page
   pub line_is : line ≡ view_line v (length netlist.circuits) (pair_count turns.compared)
       (length bad)

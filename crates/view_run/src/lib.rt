@@ -2,6 +2,7 @@
 //! answers and what it tells.
 #![tactic(auto)]
 
+mod answered;
 mod drawing;
 mod found;
 mod making;

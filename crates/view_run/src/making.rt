@@ -1,8 +1,9 @@
 //! What a run has to write.
 
-ghost use Rattle.std.specs.Prelude.{◌≡◌, ◌<◌, IfErr, IfOk, length};
+ghost use Rattle.std.specs.Prelude.{◌≡◌, ◌<◌, IfErr, IfOk, IfSome, length, true};
 ghost use Rattle.std.specs.List.{All};
 ghost use Rattle.std.specs.Option.{option_map};
+ghost use Rattle.device_merge.specs.Merged.{IsNarrow};
 ghost use Rattle.net_align.specs.Compared.{IsAlignable};
 ghost use Rattle.net_model.specs.Rows.{plain_netlist};
 ghost use Rattle.pair_jobs.specs.Verdict.{IsRunVerdict};
@@ -15,11 +16,13 @@ ghost use Rattle.view_run.specs.Found.{HasFound};
 ghost use Rattle.view_run.specs.Far.{NotMade};
 ghost use Rattle.view_run.specs.Lines.{view_line};
 ghost use Rattle.view_run.specs.Showing.{rights_in};
-ghost use Rattle.view_run.specs.Views.{AreAllPaired, AreWritten, CanBeOrdered, IsView};
+ghost use Rattle.view_run.specs.Views.{AreAllPaired, AreShown, AreWritten, CanBeOrdered};
+ghost use Rattle.view_run.specs.Views.{IsView, shown_rights};
 
+use crate::answered::as_answered;
 use crate::drawing::{circuit_names, draw, joined};
 use crate::found::{Found, find_all};
-use crate::merging::as_compared;
+use crate::merging::{Both, as_compared};
 use crate::status::Stop;
 use crate::stops::view_stop;
 use crate::summary::view_line;
@@ -31,11 +34,12 @@ use match_report::Compared;
 use net_model::Netlist;
 use pair_jobs::{Verdict, judge_run};
 use part_origins::origins_asked;
-use report_file::{circuit_name, combined_alignable, compare_in_turns, extracted_alignable};
+use report_file::{Turns, circuit_name, combined_alignable, compare_in_turns, extracted_alignable};
 use rule_text::RuleSet;
 use std::alloc::{AllocError, Global};
 use std::sync::Wait;
 use std::thread::Threads;
+use view_file::Picture;
 
 /// What is made of a layout and a schematic: the database, the page where it is asked for, the line,
 /// and what they come to.
@@ -110,6 +114,44 @@ fn view_compared(alloc: Global, showing: &Showing<'_>, told: Told<'_>) -> Result
     })
 }
 
+// What there is to write of what was compared, over the picture of the aligned circuits.
+fn view_answered(
+    alloc: Global,
+    layout: &Layout,
+    rules: &RuleSet,
+    both: &Both,
+    compared: Option<Compared>,
+    picture: Picture,
+    told: Told<'_>,
+) -> Result<View, AllocError>
+    requires narrow { IfSome compared (λ c. c.merged_again ≡ true
+        → IsNarrow (plain_netlist c.left) × IsNarrow (plain_netlist c.right)) }
+    requires paired { AreAllPaired compared }
+    requires small { IsSmallPicture picture }
+    requires cells { All (λ x. x.cell < length layout.now.design.cells) told.bad.now }
+    requires ordered { CanBeOrdered (shown_rights (plain_netlist both.now.schematic) compared) }
+    requires top { told.top < length both.now.layout.circuits.items }
+    ensures verdict { IfOk result (λ o. IsRunVerdict (length told.entry.bad.now)
+        (all_answers compared) o.verdict) }
+    ensures shown { IfOk result (λ o. AreShown layout.now (rules_seen rules.now) picture
+        (plain_netlist both.now.layout) (plain_netlist both.now.schematic) compared
+        told.entry.top told.entry.bad.now told.entry.paged o.text.items
+        (option_map (λ text. text.items) o.page)) }
+    ensures line { IfOk result (λ o. o.line.items ≡ view_line o.verdict told.entry.circuits
+        (pair_count compared) (length told.entry.bad.now)) }
+{
+    let answered = as_answered(alloc, compared, picture)?;
+    let showing = Showing {
+        layout,
+        rules,
+        picture: &answered.picture,
+        both,
+        compared: &answered.compared,
+    };
+    let made = view_compared(alloc, &showing, told)?;
+    Ok(made)
+}
+
 // What there is to write, by what was found of the layout.
 fn view_found<R: Threads + Wait + Sync, G: Gate + Sync>(
     alloc: Global,
@@ -148,8 +190,7 @@ fn view_found<R: Threads + Wait + Sync, G: Gate + Sync>(
         Err(fault) => return Err(view_stop(fault)),
     };
     let turns = compare_in_turns(alloc, rules, one, top, other, crew)?;
-    let compared = &turns.compared;
-    let shown = shown_circuits(&both, compared);
+    let shown = shown_circuits(&both, &turns.compared);
     let picture = match joined(alloc, layout, rules, drawn, one, shown) {
         Ok(picture) => picture,
         Err(fault) => return Err(view_stop(fault)),
@@ -160,14 +201,8 @@ fn view_found<R: Threads + Wait + Sync, G: Gate + Sync>(
         bad: &bad,
         paged,
     };
-    let showing = Showing {
-        layout,
-        rules,
-        picture: &picture,
-        both: &both,
-        compared,
-    };
-    let made = view_compared(alloc, &showing, told)?;
+    let Turns { compared, .. } = turns;
+    let made = view_answered(alloc, layout, rules, &both, compared, picture, told)?;
     Ok(made)
 }
 

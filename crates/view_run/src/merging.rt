@@ -3,6 +3,7 @@
 ghost use Rattle.std.specs.Prelude.{◌≡◌, IfErr, IfOk};
 ghost use Rattle.net_align.specs.Compared.{IsAlignable};
 ghost use Rattle.net_model.specs.Rows.{plain_netlist};
+ghost use Rattle.report_file.specs.Combined.{AreNarrow};
 ghost use Rattle.rule_text.specs.Seen.{rules_seen};
 ghost use Rattle.view_run.specs.Ends.{stopped};
 ghost use Rattle.view_run.specs.Found.{AreCompared, NotCompared};
@@ -43,6 +44,8 @@ pub fn as_compared(
     requires schematic { IsAlignable (plain_netlist schematic) }
     ensures both { IfOk result (AreCompared (rules_seen rules.now) (plain_netlist layout)
         (plain_netlist schematic)) }
+    ensures narrow { IfOk result (λ b. AreNarrow (rules_seen rules.now)
+        (plain_netlist b.layout) (plain_netlist b.schematic)) }
     ensures refused { IfErr result (λ why. NotCompared (rules_seen rules.now)
         (plain_netlist layout) (plain_netlist schematic) (stopped why)) }
 {

@@ -5,7 +5,7 @@ use Rattle.std.proofs.lemmas.List.{length-map}
 use Rattle.match_types.specs.Plain.{plain_answer}
 use Rattle.net_model.specs.Rows.{plain_circuit, plain_netlist}
 use Rattle.net_model.specs.declared.netlist.CallRow.{CallRow}
-use Rattle.pair_turns.specs.Going.{is_difference}
+use Rattle.pair_jobs.specs.Answers.{is_difference}
 use Rattle.pair_turns.proofs.Marked.{IsGoingBelow, all_marked, begun, differing, staying}
 use Rattle.pair_turns.proofs.Sides.{circuit_at, low_calls, same_count}
 use Rattle.pair_turns.proofs.marks.going.Goals.{then-is_difference, else-is_difference}

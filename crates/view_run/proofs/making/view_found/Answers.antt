@@ -21,7 +21,8 @@ use Rattle.view_run.specs.Far.{Aligned, HasFarBy, Written}
 use Rattle.view_run.specs.Sketched.{IsSketchOf}
 use Rattle.view_picture.specs.declared.pictures.Sketched.{Sketched}
 use Rattle.view_run.proofs.Pictured.{pictured}
-use Rattle.view_run.specs.Views.{ArePictured, AreWritten, names_of}
+use Rattle.view_run.specs.Views.{ArePictured, AreShown, names_of}
+use Rattle.view_run.proofs.Answered.{narrow_compared}
 use Rattle.view_run.proofs.Assembled.{far_aligned, is_view, line_as, layout_alignable, layout_ordered, not_drawn, not_made, schematic_alignable, top_of_both, top_there}
 use Rattle.view_run.proofs.Ordering.{shown_ordered}
 use Rattle.view_run.proofs.Shown.{all_paired, left_good}
@@ -70,7 +71,7 @@ joined-requires-clause-shown g c =
     let good = (c.origins_asked.ensures.written (plain_netlist both.layout)
     (layout_alignable c.in_ok-both.ensures.both c.combined_alignable.ensures.alignable can.0) (layout_ordered c.in_ok-both.ensures.both can.1)).0 in
     subst (λ (n : Netlist). IsGood n (λ k. k)) (sym c.shown_circuits-shown.ensures)
-    (left_good (plain_netlist both.layout) c.args.found.top (plain_netlist both.schematic) c.in_ok-turns.ensures.same r.max_guesses r.tells_pins
+    (left_good r (plain_netlist both.layout) c.args.found.top (plain_netlist both.schematic) c.in_ok-turns.ensures.same
     c.in_ok-turns.turns.compared good c.in_ok-turns.ensures.comparison)
 
 pub returns-in_err-both-clause-refused : goal.returns-in_err-both-clause-refused
@@ -125,27 +126,33 @@ joined-requires-clause-listed g c =
     regions_listed are.source are.sketch.nets are.sketch.called c.args.found.cells.cells.items (first_seen [] c.in_ok-names.names.items)
     (numbers_of (first_seen [] c.in_ok-names.names.items) written) written (areas_of c.in-Ok.drawn.sketch.regions.regions.items) c.in-Ok.drawn.sketch.drawings.items are.sketch.drawn.by_cells
 
-pub view_compared-requires-clause-paired : goal.view_compared-requires-clause-paired
-view_compared-requires-clause-paired g c =
+pub view_answered-requires-clause-narrow : goal.view_answered-requires-clause-narrow
+view_answered-requires-clause-narrow g c =
     let r = rules_seen c.args.rules.now in
-    all_paired (plain_netlist c.in_ok-both.both.layout) c.args.found.top (plain_netlist c.in_ok-both.both.schematic)
-    c.in_ok-turns.ensures.same r.max_guesses r.tells_pins c.in_ok-turns.turns.compared c.in_ok-turns.ensures.comparison
+    narrow_compared r (plain_netlist c.in_ok-both.both.layout) c.args.found.top (plain_netlist c.in_ok-both.both.schematic)
+    c.in_ok-turns.ensures.same c.in_ok-turns.turns.compared c.in_ok-both.ensures.narrow c.in_ok-turns.ensures.comparison
 
-pub view_compared-requires-clause-ordered : goal.view_compared-requires-clause-ordered
-view_compared-requires-clause-ordered g c =
+pub view_answered-requires-clause-paired : goal.view_answered-requires-clause-paired
+view_answered-requires-clause-paired g c =
     let r = rules_seen c.args.rules.now in
-    shown_ordered (plain_netlist c.in_ok-both.both.layout) c.args.found.top (plain_netlist c.in_ok-both.both.schematic)
-    c.in_ok-turns.ensures.same r.max_guesses r.tells_pins c.in_ok-turns.turns.compared
+    all_paired r (plain_netlist c.in_ok-both.both.layout) c.args.found.top (plain_netlist c.in_ok-both.both.schematic)
+    c.in_ok-turns.ensures.same c.in_ok-turns.turns.compared c.in_ok-turns.ensures.comparison
+
+pub view_answered-requires-clause-ordered : goal.view_answered-requires-clause-ordered
+view_answered-requires-clause-ordered g c =
+    let r = rules_seen c.args.rules.now in
+    shown_ordered r (plain_netlist c.in_ok-both.both.layout) c.args.found.top (plain_netlist c.in_ok-both.both.schematic)
+    c.in_ok-turns.ensures.same c.in_ok-turns.turns.compared
     (schematic_alignable c.in_ok-both.ensures.both c.combined_alignable.ensures.alignable c.requires.schematic).sound c.in_ok-turns.ensures.comparison
 
-pub view_compared-requires-clause-cells : goal.view_compared-requires-clause-cells
-view_compared-requires-clause-cells g c =
+pub view_answered-requires-clause-cells : goal.view_answered-requires-clause-cells
+view_answered-requires-clause-cells g c =
     let r = rules_seen c.args.rules.now in
     subst (λ (bs : List BadGate). All (λ x. x.cell < length c.args.layout.now.design.cells) bs) (sym c.deref.ensures.value)
     (told_inside c.args.layout.now.design r c.args.found.cells.tables.gated.gates c.args.found.bad.items c.sound.ensures c.requires.found.told)
 
-pub view_compared-requires-clause-top : goal.view_compared-requires-clause-top
-view_compared-requires-clause-top g c =
+pub view_answered-requires-clause-top : goal.view_answered-requires-clause-top
+view_answered-requires-clause-top g c =
     top_of_both c.in_ok-both.ensures.both c.args.found.top (top_there _ _ _ _ _ _ _ _ _ c.requires.found.of_cells)
 
 pub returns-clause-made : goal.returns-clause-made
@@ -169,8 +176,8 @@ returns-clause-made g c =
     let named = subst (λ (ns : List (List ℕ)). ArePictured l r f.cells ns one (plain_netlist shown.result.now) p) c.in_ok-names.ensures whole in
     let drawn = subst (λ (n : Netlist). ArePictured l r f.cells (names_of nl) one n p) shown.ensures named in
     let bad = c.deref.ensures.value in
-    let written = subst (λ (bs : List BadGate). AreWritten l r p one two o f.top bs c.args.paged text page) bad c.in_ok-made.ensures.written in
+    let written = subst (λ (bs : List BadGate). AreShown l r p one two o f.top bs c.args.paged text page) bad c.in_ok-made.ensures.shown in
     let verdict = subst (λ (bs : List BadGate). IsRunVerdict (length bs) (all_answers o) v.verdict) bad c.in_ok-made.ensures.verdict in
     let circuits : c.len-circuits.result ≡ length nl.circuits = c.len-circuits.ensures ∙ (f.netlist.circuits.ok.0 ∙ sym (length-map f.netlist.circuits.items plain_circuit)) in
     let line_is = line_as v.line.items v.verdict _ _ _ (length nl.circuits) (pair_count o) (length f.bad.items) circuits refl (ap length bad) c.in_ok-made.ensures.line in
-    is_view l r (plain_netlist c.args.schematic) f c.requires.found c.in_ok-turns.turns p written.rows c.args.paged text page both v.verdict v.line.items c.in_ok-both.ensures.both (record { taken = c.in_ok-turns.ensures; drawn = drawn; database = written.database; page_is = written.page_is }) verdict written.proposed line_is
+    is_view l r (plain_netlist c.args.schematic) f c.requires.found c.in_ok-turns.turns p c.args.paged text page both v.verdict v.line.items c.in_ok-both.ensures.both (record { taken = c.in_ok-turns.ensures; drawn = drawn; written = written }) verdict line_is

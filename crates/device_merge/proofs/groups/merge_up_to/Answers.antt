@@ -2,7 +2,7 @@ use Rattle.std.proofs.Common.{◌≡◌, ◌-◌, ◌≤◌, List, ◌∷◌, le
 use Rattle.net_model.specs.declared.netlist.DeviceRow.{DeviceRow as Held}
 use Rattle.net_model.specs.Rows.{plain_device}
 use Rattle.device_merge.proofs.Going.{IsGoing, first_and_rest, further, stopped}
-use Rattle.device_merge.proofs.groups.merge_devices.Goals as goal
+use Rattle.device_merge.proofs.groups.merge_up_to.Goals as goal
 
 pub returns-then-not-branch : goal.returns-then-not-branch
 returns-then-not-branch c =
@@ -11,7 +11,7 @@ returns-then-not-branch c =
     let some : 1 ≤ length rest = search rules in
     let more = take (length rest - 1) (drop 1 rest) in
     let e : rest ≡ c.row-item.result ∷ more = first_and_rest rest c.row-item.result some c.row-item.is in
-    stopped c.devices.merging all (map plain_device more) (plain_device c.row-item.result) (subst (λ (rs : List Held). IsGoing c.devices.merging all (map plain_device rs)) e c.devices.invariant) (c.in_ok-add.ensures.wide c.if-not-branch.true)
+    stopped c.args.most c.devices.merging all (map plain_device more) (plain_device c.row-item.result) (subst (λ (rs : List Held). IsGoing c.args.most c.devices.merging all (map plain_device rs)) e c.devices.invariant) (c.in_ok-add.ensures.wide c.if-not-branch.true)
 
 pub devices-preserved : goal.devices-preserved
 devices-preserved c =
@@ -20,4 +20,4 @@ devices-preserved c =
     let some : 1 ≤ length rest = search rules in
     let more = take (length rest - 1) (drop 1 rest) in
     let e : rest ≡ c.row-item.result ∷ more = first_and_rest rest c.row-item.result some c.row-item.is in
-    further c.devices.merging c.add.new.self all (map plain_device more) (plain_device c.row-item.result) (subst (λ (rs : List Held). IsGoing c.devices.merging all (map plain_device rs)) e c.devices.invariant) (c.in_ok-add.ensures.added c.if-not-branch.false)
+    further c.args.most c.devices.merging c.add.new.self all (map plain_device more) (plain_device c.row-item.result) (subst (λ (rs : List Held). IsGoing c.args.most c.devices.merging all (map plain_device rs)) e c.devices.invariant) c.in_ok-add.ensures.most (c.in_ok-add.ensures.added c.if-not-branch.false)
