@@ -1,18 +1,21 @@
 -- What is shown of a comparison, as its circuits were answered, is as what was compared.
-use Rattle.std.proofs.Common.{◌≡◌, ◌∙◌, ◌&&◌, ℕ, Bool, true, false, true≢false, List, ◌∷◌, [], Option, Some, None, IfSome, length, map, refl, sym, ap, ap₂, subst}
+use Rattle.std.proofs.Common.{◌≡◌, ◌∙◌, ◌&&◌, ◌||◌, ℕ, Bool, true, false, true≢false, List, ◌∷◌, [], Option, Some, None, IfSome, length, map, refl, sym, ap, ap₂, subst}
 use Rattle.std.proofs.lemmas.Bool.{and_parts}
-use Rattle.device_merge.specs.Merged.{IsNarrow}
+use Rattle.std.specs.List.{list_any}
+use Rattle.device_merge.specs.Merged.{IsNarrow, has_alike}
 use Rattle.match_flow.proofs.Again.{as_many}
 use Rattle.match_flow.proofs.Narrow.{both_narrow}
 use Rattle.match_report.specs.Report.{answers_of}
 use Rattle.match_report.specs.declared.report.Compared.{Compared}
+use Rattle.match_laws.specs.Answer.{Answer as Plain}
 use Rattle.match_types.specs.Plain.{plain_answer}
 use Rattle.match_types.specs.declared.answer.Answer.{Answer}
 use Rattle.merge_laws.specs.Grouped.{merged_circuit, merged_netlist}
 use Rattle.net_model.specs.Faults.{called_by}
 use Rattle.net_model.specs.Rows.{plain_netlist}
+use Rattle.pair_jobs.specs.Answers.{is_difference}
 use Rattle.plain_netlist.specs.Netlist.{Circuit, Netlist}
-use Rattle.report_file.specs.Combined.{AreNarrow}
+use Rattle.report_file.specs.Combined.{AreNarrow, merges_again}
 use Rattle.report_file.specs.Compared.{IsComparison}
 use Rattle.report_file.specs.File.{all_answers, pair_count}
 use Rattle.rule_text.specs.Rules.{Rules}
@@ -34,7 +37,7 @@ shown_answers o s p q (Again c a is on shown h picture) = ap all_answers shown �
 
 pub shown_count : (o s : Option Compared) (p q : Picture) → IsShown o s p q → pair_count s ≡ pair_count o
 shown_count o s p q (AsAligned off same picture) = ap pair_count same
-shown_count o s p q (Again c a is on shown h picture) = ap pair_count shown ∙ ap (λ xs. length xs) (same_answers c a h) ∙ ap pair_count (sym is)
+shown_count o s p q (Again c a is on shown h picture) = ap pair_count shown ∙ ap (λ (xs : List Plain). length xs) (same_answers c a h) ∙ ap pair_count (sym is)
 
 -- ---- so are pairs and calls
 
@@ -44,7 +47,7 @@ paired_again c a h paired =
     let right : length (plain_netlist a.right).circuits ≡ length (plain_netlist c.right).circuits = ap (λ (n : Netlist). length n.circuits) h.right ∙ as_many (plain_netlist c.right) in
     record {
       rights = right ∙ paired.rights ∙ sym left;
-      answers = ap (λ xs. length xs) (same_answers c a h) ∙ paired.answers ∙ sym left;
+      answers = ap (λ (xs : List Plain). length xs) (same_answers c a h) ∙ paired.answers ∙ sym left;
     }
 
 pub shown_paired : (o s : Option Compared) (p q : Picture) → IsShown o s p q → AreAllPaired o → AreAllPaired s
@@ -53,7 +56,7 @@ shown_paired o s p q (Again c a is on shown h picture) paired = subst (λ (x : O
 
 same_calls : (cs : List Circuit) → map called_by (map merged_circuit cs) ≡ map called_by cs
 same_calls [] = refl
-same_calls (c ∷ cs) = ap (λ xs. called_by c ∷ xs) (same_calls cs)
+same_calls (c ∷ cs) = ap (λ (xs : List (List ℕ)). called_by c ∷ xs) (same_calls cs)
 
 ordered_by : (cs ds : List Circuit) → map called_by cs ≡ map called_by ds → CanBeOrdered ds → CanBeOrdered cs
 ordered_by cs ds e h = record { range = rw e h.range; no_cycle = rw e h.no_cycle }
@@ -74,5 +77,8 @@ pub narrow_compared : (r : Rules) (layout : Netlist) (top : ℕ) (schematic : Ne
     → IfSome o (λ c. c.merged_again ≡ true → IsNarrow (plain_netlist c.left) × IsNarrow (plain_netlist c.right))
 narrow_compared r layout top schematic same None narrow h = tt
 narrow_compared r layout top schematic same (Some c) narrow h = λ on.
-    let set = and_parts _ _ (sym h.1.again_is ∙ on) in
-    both_narrow layout schematic top same (plain_netlist c.left) (plain_netlist c.right) h.0 (narrow set.0)
+    let left = plain_netlist c.left in
+    let right = plain_netlist c.right in
+    let differs = list_any is_difference h.1.first in
+    let set = and_parts (merges_again r && differs) (has_alike left || has_alike right) (sym h.1.again_is ∙ on) in
+    both_narrow layout schematic top same left right h.0 (narrow (and_parts (merges_again r) differs set.0).0)
