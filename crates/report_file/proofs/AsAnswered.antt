@@ -1,6 +1,5 @@
 -- The sides of a comparison as their pairs are answered: the nets, pins, names and calls of the aligned ones.
-use Rattle.std.proofs.Common.{◌≡◌, ℕ, suc, Bool, true, false, ◌&&◌, cond, List, [], ◌∷◌, map, length, refl, sym, ap, subst, ◌∙◌}
-use Rattle.std.specs.List.{list_any}
+use Rattle.std.proofs.Common.{◌≡◌, ℕ, Bool, true, false, cond, List, map, length, refl, ◌∙◌}
 use Rattle.align_laws.specs.Partners.{AreSides}
 use Rattle.match_flow.proofs.Again.{as_many}
 use Rattle.match_flow.specs.Again.{IsAnswered, as_answered}
@@ -8,7 +7,7 @@ use Rattle.match_laws.specs.Answer.{Answer}
 use Rattle.merge_laws.proofs.Kept.{good_merged}
 use Rattle.merge_laws.proofs.Nets as nets
 use Rattle.merge_laws.proofs.Sides.{merged_sides}
-use Rattle.merge_laws.specs.Grouped.{groups, merged_netlist, merged_row}
+use Rattle.merge_laws.specs.Grouped.{groups, merged_row}
 use Rattle.plain_netlist.specs.Netlist.{Circuit, InOneNet, IsCircuit, Netlist, Slot}
 use Rattle.plain_netlist.specs.Sound.{IsGood}
 use Rattle.report_file.proofs.Compared.{HaveOrder}

@@ -1,5 +1,5 @@
 -- Two circuits that call nothing and expand to the same have a correspondence.
-use Rattle.std.proofs.Common.{◌≡◌, inl, inr, ℕ, ◌<◌, List, [], ◌∷◌, length, Some, slice_get, refl, sym, ap, subst, ◌∙◌, arith}
+use Rattle.std.proofs.Common.{◌≡◌, ℕ, ◌<◌, List, [], length, Some, slice_get, refl, sym, ap, subst, ◌∙◌, arith}
 use Rattle.base_laws.proofs.Items.{item_at}
 use Rattle.std.specs.Prelude.{slice_index}
 use Rattle.std.proofs.lemmas.Option.{slice_get_within}

@@ -3,7 +3,7 @@ mod Folded
 mod Read
 mod Aligning
 mod Compared
-mod AsAnswered
+pub mod AsAnswered
 mod Kept
 mod Gone
 mod Turned
@@ -31,4 +31,3 @@ mod SameTop
 mod TopStays
 mod TopKept
 mod TopPartner
-pub mod AsAnswered

@@ -1,5 +1,5 @@
 -- Circuits that call nothing, each group of their alike devices as one once more.
-use Rattle.std.proofs.Common.{◌≡◌, inl, inr, ℕ, ◌<◌, Bool, true, false, List, [], length, Some, slice_get, refl, sym, subst}
+use Rattle.std.proofs.Common.{◌≡◌, inl, inr, ℕ, ◌<◌, Bool, true, false, [], length, Some, slice_get, refl, sym, subst}
 use Rattle.align_laws.proofs.Kept.{aligned_corresponds}
 use Rattle.align_laws.specs.Aligned.{IsAligned, IsDeviceAligned, IsNetAligned}
 use Rattle.align_laws.specs.Cut.{Alignment}

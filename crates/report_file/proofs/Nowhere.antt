@@ -1,5 +1,5 @@
 -- Where the pair of the tops differs and calls nothing, layout and schematic correspond in no way.
-use Rattle.std.proofs.Common.{◌≡◌, ◌↔◌, inl, inr, ℕ, ◌+◌, ◌≤◌, ◌==◌, ◌&&◌, Bool, true, false, cond, List, [], length, Some, slice_get, refl, sym, ap, subst, ◌∙◌, arith, true≢false}
+use Rattle.std.proofs.Common.{◌≡◌, ◌↔◌, inl, inr, ℕ, ◌&&◌, Bool, true, false, cond, List, [], length, Some, slice_get, refl, sym, ap, subst, ◌∙◌, arith, true≢false}
 use Rattle.base_laws.proofs.Items.{item_at}
 use Rattle.std.specs.List.{Any, list_any}
 use Rattle.std.proofs.lemmas.Bool.{cases_Bool}
@@ -23,7 +23,7 @@ use Rattle.pair_turns.specs.Going.{AreGoing}
 use Rattle.plain_netlist.proofs.Alike.{reversed, through}
 use Rattle.plain_netlist.specs.Flats.{Corresponds, expanded, Reversed, Through}
 use Rattle.plain_netlist.specs.Lists.{IsListed}
-use Rattle.plain_netlist.specs.Netlist.{Circuit, IsCircuit, IsOnPin, Netlist, Slot, slot}
+use Rattle.plain_netlist.specs.Netlist.{Circuit, IsOnPin, Netlist, Slot, slot}
 use Rattle.report_file.proofs.AsAnswered.{answered_order, circuit_answered, there}
 use Rattle.report_file.proofs.Compared.{HaveOrder}
 use Rattle.report_file.proofs.LastPair.{last_is_top, leaf_of, partner_kept, top_kept, tops}

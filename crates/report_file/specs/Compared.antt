@@ -1,5 +1,5 @@
 -- What there is to compare of a layout's netlist and a schematic.
-use Rattle.std.specs.Prelude.{ℕ, Bool, List, Option, Some, None}
+use Rattle.std.specs.Prelude.{ℕ, List, Option, Some, None}
 use Rattle.composed_laws.specs.Answered.{Asked}
 use Rattle.match_flow.specs.Again.{as_answered, IsAnswered}
 use Rattle.match_report.specs.Report.{answers_of}
