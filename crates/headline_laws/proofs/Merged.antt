@@ -1,5 +1,5 @@
 -- The flat layout's netlist, merged, through the layout's merged circuits, to the flattened schematic, merged.
-use Rattle.std.proofs.Common.{◌≡◌, inl, inr, ℕ, List, refl, subst}
+use Rattle.std.proofs.Common.{◌≡◌, ℕ, List, refl, subst}
 use Rattle.composed_laws.proofs.Matching.{matched_tops}
 use Rattle.composed_laws.specs.Matched.{AreDevicesMatched, AreNetsMatched}
 use Rattle.flat_layout.specs.Circuits.{IsCircuitCell}

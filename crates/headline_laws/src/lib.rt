@@ -6,8 +6,8 @@
 //! functions with empty bodies.
 #![tactic(auto)]
 
-ghost use Rattle.headline_laws.specs.FlatNetlist.{FlatCorrespondsLaw, TopCircuitLaw};
 ghost use Rattle.headline_laws.specs.Again.{MergedAgainLaw};
+ghost use Rattle.headline_laws.specs.FlatNetlist.{FlatCorrespondsLaw, TopCircuitLaw};
 ghost use Rattle.headline_laws.specs.Headline.{MatchedLayoutLaw};
 ghost use Rattle.headline_laws.specs.Merged.{MergedMatchLaw};
 
@@ -22,8 +22,8 @@ pub fn matched_layouts()
     ensures { MatchedLayoutLaw }
 {}
 
-/// A match of all pairs of the merged netlists is a correspondence of the two when merged flat, also
-/// where they are merged once more after they were aligned.
+/// A match of all pairs of the merged netlists is a correspondence of the two when merged flat,
+/// also where they are merged once more after they were aligned.
 pub fn merged_layouts()
     ensures merged { MergedMatchLaw }
     ensures again { MergedAgainLaw }

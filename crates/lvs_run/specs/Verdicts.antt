@@ -70,8 +70,8 @@ OfEachPair r compared P = (f : Compared) (k : ℕ) (c d : Circuit) (p : Pair) �
 -- comparison. Where the rules say `flatten_unmatched`, no gate is bad, the top has a partner and
 -- nothing became too large, Bad says that the flat layout corresponds to the flattened schematic in
 -- no way, or with `same_pins` in none that keeps the names of pins; where the rules combine
--- devices, with each class of alike ones as one on both sides. Where no pair differs as its circuits
--- are, or the rules don't say to make devices one once more, none are.
+-- devices, with each class of alike ones as one on both sides. Where no pair differs as its
+-- circuits are, or the rules don't say to make devices one once more, none are.
 pub record HasVerdicts (a : Answer) (l : Layout) (r : Rules) (schematic : Netlist)
     (netlist_text report_text : List ℕ) : Type 0 where
   pub report : IsReportOf l r schematic a netlist_text report_text

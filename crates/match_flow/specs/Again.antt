@@ -13,9 +13,9 @@ use Rattle.plain_netlist.specs.Netlist.{Netlist}
 abbrev pub as_answered : Bool → Netlist → Netlist
 as_answered again nl = cond again (merged_netlist nl) nl
 
--- the answers of all pairs of two aligned netlists: of their circuits as they are; where devices are
--- combined so, some pair differs and some transistors of a circuit are alike, of those in which
--- alike transistors are one once more
+-- the answers of all pairs of two aligned netlists: of their circuits as they are; where devices
+-- are combined so, some pair differs and some transistors of a circuit are alike, of those in
+-- which alike transistors are one once more
 pub record IsAnswered (combine : Bool) (limit : ℕ) (same_pins : Bool) (left right : Netlist)
     (again : Bool) (answers : List Answer) : Type 0 where
   pub first : List Answer

@@ -1,8 +1,7 @@
 -- The two sides of a comparison stay sides of one when merged.
-use Rattle.align_laws.specs.Partners.{AreSides}
 use Rattle.merge_laws.proofs.Kept.{good_merged}
 use Rattle.merge_laws.proofs.Nets.{circuit_back, circuit_there}
-use Rattle.merge_laws.specs.Grouped.{SidesMergedLaw, merged_circuit, merged_netlist}
+use Rattle.merge_laws.specs.Grouped.{SidesMergedLaw, merged_circuit}
 
 pub merged_sides : SidesMergedLaw
 merged_sides left right s = record {

@@ -1,7 +1,7 @@
 -- What is compared by rules that combine devices: netlists in whose circuits each group of alike
 -- transistors is one.
-use Rattle.std.specs.Prelude.{◌≡◌, ℕ, Bool, true, ◌==◌, ◌&&◌, ◌||◌, not, List, length, Option, None, cond}
-use Rattle.std.specs.Prelude.{slice_get}
+use Rattle.std.specs.Prelude.{◌≡◌, ℕ, Bool, true, ◌==◌, ◌&&◌, ◌||◌, not, List, length, Option}
+use Rattle.std.specs.Prelude.{None, cond, slice_get}
 use Rattle.std.specs.Option.{option_map}
 use Rattle.device_merge.specs.Merged.{IsNarrow}
 use Rattle.match_report.specs.Pairs.{name_of}
@@ -15,17 +15,17 @@ use Rattle.rule_text.specs.Rules.{Rules}
 abbrev pub compared_of : Rules → Netlist → Netlist
 compared_of r nl = cond r.combine (merged_netlist nl) nl
 
--- the rules flatten circuits: those without partner by lines, or those that differ
+-- the rules flatten circuits: those that their lines name, or those that differ
 abbrev pub flattens : Rules → Bool
 flattens r = r.flattens_unmatched
     || not (length r.flat_layouts == 0 && length r.flat_schematics == 0)
 
--- then alike transistors that come to stand in one circuit are made one once more, where pairs
--- differ
+-- then, by rules that combine devices, alike transistors that come to stand in one circuit are made
+-- one once more, where pairs differ
 abbrev pub merges_again : Rules → Bool
 merges_again r = r.combine && flattens r
 
--- what is made one once more may be: no device of either netlist is too wide for that
+-- no device of either netlist is too wide to be made one with others once more
 abbrev pub AreNarrow : Rules → Netlist → Netlist → Type 0
 AreNarrow r layout schematic = merges_again r ≡ true → IsNarrow layout × IsNarrow schematic
 

@@ -11,8 +11,8 @@ use Rattle.plain_netlist.specs.Netlist.{Netlist}
 use Rattle.report_file.specs.Combined.{merges_again}
 use Rattle.rule_text.specs.Rules.{Rules}
 
--- what there is to compare by the rules of a layout's netlist, below its top, and a schematic, whose
--- circuits are partners by these lines `same`: nothing exactly where the top has no partner, else
+-- what there is to compare by the rules of a layout's netlist, below its top, and a schematic,
+-- whose circuits are partners by these lines `same`: nothing exactly where the top has no partner, else
 -- the aligned pair of the two, and the answer of each pair of their circuits after at most
 -- `max_guesses` refuted guesses, where with `same_pins` names tell the tops' pins apart; where the
 -- rules flatten circuits and combine devices, and some pair differs so, of the circuits in which

@@ -54,8 +54,8 @@ pub record Matching (d : Linked) (r : Rules) (unit : ℕ) (layout : Netlist) (to
   pub aligned : IsAlignedPair (compared_of r layout) (compared_of r schematic) top partner same
       (plain_netlist f.left) (plain_netlist f.right) left_by right_by
 
--- devices below circuit k of two aligned netlists that the pairings pair; where alike ones are made
--- one once more, by way of those that they become
+-- devices below circuit k of two aligned netlists that the pairings pair; where alike ones are
+-- made one once more, by way of those that they become
 abbrev pub AreDevicesAnswered : Bool → Netlist → Netlist → (ℕ → Pairing) → ℕ → Slot → Slot → Type 0
 AreDevicesAnswered false left right pairings k = AreDevicesPaired left pairings k
 AreDevicesAnswered true left right pairings k = AreDevicesPairedAgain left right pairings k

@@ -68,7 +68,8 @@ EndsWith r f lines =
 pub record IsTurn (r : Rules) (f : Compared) (goes : List Bool) (lines : List ℕ) : Type 0 where
   pub apart : AreTakenApart r f goes
   pub limit : IsLimit (plain_netlist f.left) (plain_netlist f.right) goes None
-  pub told : lines ≡ again_line f.merged_again ++ apart_texts (lefts_of f) (rights_of f) 0 goes (answers_of f)
+  pub told : lines ≡ again_line f.merged_again
+      ++ apart_texts (lefts_of f) (rights_of f) 0 goes (answers_of f)
 
 -- so where there is a comparison; else there are no lines
 abbrev pub EndsAfter : Rules → Option Compared → List ℕ → Type 0

@@ -72,8 +72,8 @@ UndecidedLaw = (d : Linked) (r : Rules) (layout : Netlist) (top : ℕ) (bad : Li
     → (v ≡ verdict.Undecided) ↔ ((length bad ≡ 0) × ((f : Compared) × (x.compared ≡ Some f)
     × (Any IsDifference (answers_of f) → ⊥) × Any IsUndecided (answers_of f)))
 
--- where no pair of the circuits as they are differs, or the rules don't say to make devices one once
--- more, the answers are those of the circuits as they are
+-- where no pair of the circuits as they are differs, or the rules don't say to make devices one
+-- once more, the answers are those of the circuits as they are
 abbrev pub IsAsBefore : Rules → Compared → Type 0
 IsAsBefore r f = (first : List Answer)
     → AreAllAnswers (plain_netlist f.left) (plain_netlist f.right) (asked_by r f) first

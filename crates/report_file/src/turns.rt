@@ -206,12 +206,12 @@ fn take_apart(
 
 /// The comparisons of a layout, below its top, with a schematic, one after the other. Partners, the
 /// limit of refuted guesses in each pair, and whether names tell the tops' pins apart, are those of
-/// the rules. Where the rules combine devices and flatten circuits, `compare` makes alike transistors
+/// the rules. Where these combine devices and flatten circuits, `compare` makes alike transistors
 /// one once more. Where the rules say so, after a comparison with pairs that differ, those that
-/// `going` tells are taken apart, and both netlists are compared again, until none differs or all is flat,
-/// or a circuit would have more than 2^24 devices and calls. An `Err` is want of memory, or 2^32
-/// pairs or more. Cost: that of each comparison, of which there are at most as many as circuits of
-/// the layout.
+/// `going` tells are taken apart, and both netlists are compared again, until none differs or all
+/// is flat, or a circuit would have more than 2^24 devices and calls. An `Err` is want of memory,
+/// or 2^32 pairs or more. Cost: that of each comparison, of which there are at most as many as
+/// circuits of the layout.
 pub fn compare_in_turns<R: Threads + Wait + Sync, G: Gate + Sync>(
     alloc: Global,
     rules: &RuleSet,
