@@ -1,7 +1,8 @@
 //! What each refusal means, and what to do about it.
 
-/// A refusal: how its line goes on behind `refused`, what it means, and what to do about it. What
-/// stands in the line behind the key stands at the mark `@`.
+use crate::near::{beside, is_near};
+
+/// A refusal: how its line goes on behind `refused`, what it means, and what to do about it.
 pub struct Advice {
     pub key: &'static str,
     pub what: &'static str,
@@ -11,17 +12,17 @@ pub struct Advice {
 static FILES: [Advice; 10] = [
     Advice {
         key: "same",
-        what: "a file that is written is named twice, or is read, too @",
+        what: "a file that is written is named twice, or is read, too",
         cure: "name another one",
     },
     Advice {
         key: "absent",
-        what: "there is no file @",
+        what: "there is no such file",
         cure: "look at the path; it counts from the folder in which the program runs",
     },
     Advice {
         key: "long",
-        what: "more than 268,435,456 bytes: @",
+        what: "more than 268,435,456 bytes",
         cure: "leave out layers that the rules don't name",
     },
     Advice {
@@ -36,17 +37,17 @@ static FILES: [Advice; 10] = [
     },
     Advice {
         key: "no circuit",
-        what: "no circuit is called @",
+        what: "no circuit is called so",
         cure: "look at --top: it is the name behind .SUBCKT",
     },
     Advice {
         key: "merge layout",
-        what: "by combine_devices alike transistors of @ in the layout would be too wide",
+        what: "by combine_devices alike transistors of this circuit of the layout would be too wide",
         cure: "leave the line combine_devices out",
     },
     Advice {
         key: "merge schematic",
-        what: "by combine_devices alike transistors of @ in the schematic would be too wide",
+        what: "by combine_devices alike transistors of this circuit of the schematic would be too wide",
         cure: "leave the line combine_devices out",
     },
     Advice {
@@ -64,72 +65,72 @@ static FILES: [Advice; 10] = [
 static STREAM: [Advice; 14] = [
     Advice {
         key: "layout 1",
-        what: "the file ends too early (@)",
+        what: "the file ends too early",
         cure: "it was cut, or is empty: copy or write it again",
     },
     Advice {
         key: "layout 2",
-        what: "a record's length is wrong (@)",
+        what: "a record's length is wrong",
         cure: "the file is damaged or no GDSII: save it as GDSII, unpack a .gz",
     },
     Advice {
         key: "layout 3",
-        what: "an unknown kind of record (@)",
+        what: "an unknown kind of record",
         cure: "a vendor's extension: write the layout anew",
     },
     Advice {
         key: "layout 4",
-        what: "a record stands where none may (@)",
+        what: "a record stands where none may",
         cure: "the file is damaged: write it anew",
     },
     Advice {
         key: "layout 5",
-        what: "a record's content is wrong, or an outline isn't closed or has too few points (@)",
+        what: "a record's content is wrong, or an outline isn't closed or has too few points",
         cure: "write the layout anew, with closed outlines",
     },
     Advice {
         key: "layout 6",
-        what: "a slanted edge (@)",
+        what: "a slanted edge",
         cure: "draw edges along x or y; logos go into another file",
     },
     Advice {
         key: "layout 7",
-        what: "a path with round ends (@)",
+        what: "a path with round ends",
         cure: "draw it with square ends (path type 0, 2 or 4)",
     },
     Advice {
         key: "layout 8",
-        what: "a path of odd width (@)",
+        what: "a path of odd width",
         cure: "widen it by one database unit",
     },
     Advice {
         key: "layout 9",
-        what: "a magnified reference (@)",
+        what: "a magnified reference",
         cure: "draw the cell in its size",
     },
     Advice {
         key: "layout 10",
-        what: "a reference turned by no quarter (@)",
+        what: "a reference turned by no quarter",
         cure: "turn the shapes of the cell instead",
     },
     Advice {
         key: "layout 11",
-        what: "an absolute angle or magnification (@)",
+        what: "an absolute angle or magnification",
         cure: "clear these bits in the editor",
     },
     Advice {
         key: "layout 12",
-        what: "an array with no whole steps, or without columns or rows (@)",
+        what: "an array with no whole steps, or without columns or rows",
         cure: "place the cells one by one",
     },
     Advice {
         key: "layout 13",
-        what: "a database unit that isn't 1 pm to 1 micrometre (@)",
+        what: "a database unit that isn't 1 pm to 1 micrometre",
         cure: "save it with another unit",
     },
     Advice {
         key: "layout 14",
-        what: "an outline of more than 1,000,000 points (@)",
+        what: "an outline of more than 1,000,000 points",
         cure: "split the polygon",
     },
 ];
@@ -137,22 +138,22 @@ static STREAM: [Advice; 14] = [
 static CELLS: [Advice; 9] = [
     Advice {
         key: "layout 20",
-        what: "a second cell of this name: @",
+        what: "a second cell of this name",
         cure: "rename one of them",
     },
     Advice {
         key: "layout 21",
-        what: "a cell is placed that isn't in the file: @",
+        what: "a cell is placed that isn't in the file",
         cure: "add the library that has it",
     },
     Advice {
         key: "layout 22",
-        what: "a cell stands below itself: @",
+        what: "a cell stands below itself",
         cure: "take the reference out",
     },
     Advice {
         key: "layout 23",
-        what: "no cell places these: @",
+        what: "no cell places these",
         cure: "say which one is the top: --top NAME",
     },
     Advice {
@@ -162,7 +163,7 @@ static CELLS: [Advice; 9] = [
     },
     Advice {
         key: "layout 25",
-        what: "it reaches beyond 2^36 database units: @",
+        what: "it reaches beyond 2^36 database units",
         cure: "place what it joins nearer to its origin",
     },
     Advice {
@@ -172,12 +173,12 @@ static CELLS: [Advice; 9] = [
     },
     Advice {
         key: "layout 27",
-        what: "more than 64 references in a chain below @",
+        what: "more than 64 references in a chain below the cell",
         cure: "flatten some of them",
     },
     Advice {
         key: "layout 28",
-        what: "a rectangle of an output line doesn't fit 32 bits: @",
+        what: "a rectangle of an output line doesn't fit 32 bits",
         cure: "leave that output line out, or place what the cell joins nearer to its origin",
     },
 ];
@@ -185,37 +186,37 @@ static CELLS: [Advice; 9] = [
 static RULES: [Advice; 7] = [
     Advice {
         key: "rules 30",
-        what: "no statement begins so (@)",
+        what: "no statement begins so",
         cure: "docs/FROM_KLAYOUT.md has what to write in its place",
     },
     Advice {
         key: "rules 31",
-        what: "the statement has another form (@)",
+        what: "the statement has another form",
         cure: "one operator a line, a name of its own that begins with a small letter, no Ruby: c = a & b",
     },
     Advice {
         key: "rules 32",
-        what: "a name isn't defined (@)",
+        what: "a name isn't defined",
         cure: "define it in a line above, as a = input(1, 0)",
     },
     Advice {
         key: "rules 33",
-        what: "defined, written or paired before (@)",
+        what: "defined, written or paired before",
         cure: "leave one of the two lines out",
     },
     Advice {
         key: "rules 34",
-        what: "a layer that can't stand here (@)",
+        what: "a layer that can't stand here",
         cure: "texts stand for no shapes; a terminal's layer stands in a connect line: \"tG\" => poly",
     },
     Advice {
         key: "rules 35",
-        what: "more than 256 names (@)",
+        what: "more than 256 names",
         cure: "leave names out that nothing reads",
     },
     Advice {
         key: "rules 36",
-        what: "a byte that no text has (@)",
+        what: "a byte that no text has",
         cure: "the rule file is plain text: is --rules another file?",
     },
 ];
@@ -223,47 +224,47 @@ static RULES: [Advice; 7] = [
 static CARDS: [Advice; 9] = [
     Advice {
         key: "schematic 41",
-        what: "a call of a circuit that isn't in the file (@)",
+        what: "a call of a circuit that isn't in the file",
         cure: "lvs netlist A.cir B.cir --out P joins files",
     },
     Advice {
         key: "schematic 42",
-        what: "a circuit calls itself: @",
+        what: "a circuit calls itself",
         cure: "take the call out",
     },
     Advice {
         key: "schematic 43",
-        what: "a call with another number of nets than the circuit has pins (@)",
+        what: "a call with another number of nets than the circuit has pins",
         cure: "count them; lvs netlist takes CDL's / away",
     },
     Advice {
         key: "schematic 44",
-        what: "a second circuit of this name, capitals apart (@)",
+        what: "a second circuit of this name, capitals apart",
         cure: "rename one of them",
     },
     Advice {
         key: "schematic 50",
-        what: "a card of another kind (@)",
+        what: "a card of another kind",
         cure: "M, R, D and X cards are read; lvs netlist turns what netlisters write, a title by --title",
     },
     Advice {
         key: "schematic 51",
-        what: "the card has another form (@)",
+        what: "the card has another form",
         cure: "M1 drain gate source bulk MODEL L=0.1U W=1U; lvs netlist turns comments behind cards",
     },
     Advice {
         key: "schematic 52",
-        what: "a parameter that can't be taken (@)",
+        what: "a parameter that can't be taken",
         cure: "lvs netlist leaves out those that aren't compared",
     },
     Advice {
         key: "schematic 53",
-        what: "a size that can't be taken (@)",
+        what: "a size that can't be taken",
         cure: "sizes are plain numbers in metres: W=1U is one micrometre; lvs netlist puts .PARAM in",
     },
     Advice {
         key: "schematic 54",
-        what: "a .SUBCKT without its .ENDS (@)",
+        what: "a .SUBCKT without its .ENDS",
         cure: "write .ENDS behind its cards",
     },
 ];
@@ -275,7 +276,7 @@ static TURNED: [Advice; 10] = [
         cure: "a path counts from the folder of the file that names it",
     },
     Advice {
-        key: "too deep",
+        key: "files take in each other in a cycle, or too deep",
         what: "files take in each other, in a cycle or deeper than 32",
         cure: "leave one of the lines out",
     },
@@ -295,7 +296,7 @@ static TURNED: [Advice; 10] = [
         cure: "write the second one",
     },
     Advice {
-        key: "before it in its file",
+        key: "a + with no card before it in its file",
         what: "a + with no card before it in its file",
         cure: "put the card and what goes on with it into one file",
     },
@@ -310,7 +311,7 @@ static TURNED: [Advice; 10] = [
         cure: "M1 drain gate source bulk MODEL L=0.1U W=1U; X1 nets CIRCUIT; a title goes by --title",
     },
     Advice {
-        key: "that .PARAM defines, too",
+        key: "a circuit's parameter that .PARAM defines, too",
         what: "a circuit's parameter that a .PARAM defines, too",
         cure: "rename one of the two",
     },
@@ -322,7 +323,7 @@ static TURNED: [Advice; 10] = [
 ];
 
 // Whether a line's words begin with a key.
-fn begins(why: &str, key: &str) -> bool {
+fn has_key(why: &str, key: &str) -> bool {
     match why.strip_prefix(key) {
         Some(rest) => rest.is_empty() || rest.starts_with(' '),
         None => false,
@@ -330,8 +331,12 @@ fn begins(why: &str, key: &str) -> bool {
 }
 
 fn among<'a>(rows: &'a [Advice], why: &str) -> Option<&'a Advice> {
-    rows.iter()
-        .find(|row| begins(why, row.key) || why.ends_with(row.key))
+    for row in rows.iter() {
+        if has_key(why, row.key) {
+            return Some(row);
+        }
+    }
+    None
 }
 
 /// What is said of a refusal whose line goes on so behind `refused`.
@@ -405,14 +410,15 @@ static STATEMENTS: [&str; 18] = [
 
 /// What stands for a call of KLayout's.
 pub fn call_cure(word: &str) -> Option<&'static str> {
-    let found = CALLS.iter().find(|row| row.0 == word)?;
-    Some(found.1)
+    beside(&CALLS, word)
 }
 
 /// A word of statements that a word is near to.
 pub fn near_statement(word: &str) -> Option<&'static str> {
-    STATEMENTS
-        .iter()
-        .find(|statement| crate::near::is_near(word, statement))
-        .copied()
+    for statement in STATEMENTS.iter() {
+        if is_near(word, statement) {
+            return Some(statement);
+        }
+    }
+    None
 }

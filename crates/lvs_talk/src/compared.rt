@@ -1,7 +1,8 @@
 //! What a comparison came to.
 
-use crate::netlists::{circuit_count, has_no_device, has_scale, last_circuit, named};
-use crate::sentence::say;
+use crate::near::beside;
+use crate::netlists::{has_no_device, has_scale, last_circuit, named, part_count};
+use crate::sentence::{NONE, Sentence, say, says};
 use crate::words::{Ended, command_in, word_at};
 use std::alloc::{AllocError, Global};
 
@@ -20,7 +21,6 @@ static CAUSES: [(&str, &str); 5] = [
         "groups-1",
         "source and drain are one piece, or one of them is missing",
     ),
-    ("groups-", "it hasn't one source and one drain beside it"),
     (
         "off-gate",
         "a part of it isn't in the layer of its terminal",
@@ -30,134 +30,173 @@ static CAUSES: [(&str, &str); 5] = [
         "a part of a terminal isn't in the terminal's layer",
     ),
     ("no-bulk", "nothing is its bulk"),
+    ("no-length", "source and drain are all round it"),
 ];
 
-fn cause_text(cause: &str) -> &'static str {
-    match CAUSES.iter().find(|row| cause.starts_with(row.0)) {
-        Some(row) => row.1,
-        None => "source and drain are all round it",
+// The first line that begins so; nothing where none does.
+fn line_with<'a>(text: &'a str, front: &str) -> &'a str {
+    for line in text.lines() {
+        if line.starts_with(front) {
+            return line;
+        }
     }
+    ""
 }
 
 // The first bad gate of a report.
-fn tell_gate(out: &mut String, report: &str) -> Result<(), AllocError> {
-    let Some(line) = report.lines().find(|line| line.starts_with("gate ")) else {
-        return Ok(());
-    };
-    let words = [
-        word_at(line, 2),
-        word_at(line, 1),
-        word_at(line, 3),
-        word_at(line, 4),
-    ];
-    let pattern = "  the first bad gate: a @ in cell @ at (@, @) database units: ";
-    say(out, pattern, &words)?;
-    say(out, "@\n", &[cause_text(word_at(line, 5))])
+fn gate_sentence(report: &str) -> Sentence<'_> {
+    match line_with(report, "gate ").rsplit_once(' ') {
+        Some((gate, cause)) => {
+            let text = beside(&CAUSES, cause).unwrap_or("it hasn't one source and one drain");
+            says(
+                "  @ (cell, class, x and y in database units) is bad: @",
+                gate,
+                text,
+                "",
+            )
+        }
+        None => NONE,
+    }
 }
 
 // A top without partner.
-fn tell_partner(out: &mut String, texts: &Texts<'_>) -> Result<(), AllocError> {
-    let top = texts.report.lines().nth(1).unwrap_or("");
-    if word_at(top, 0) != "top" || word_at(top, 2) != "none" {
-        return Ok(());
+fn partner_sentence<'a>(texts: &Texts<'a>) -> Sentence<'a> {
+    let line = line_with(texts.report, "top ");
+    if word_at(line, 2) != "none" {
+        return NONE;
     }
-    let name = word_at(top, 1);
-    let other = last_circuit(texts.schematic).unwrap_or("NAME");
-    let pattern = "  @ has no partner in the schematic: add the rule same_circuits(\"@\", \"@\")\n";
-    say(out, pattern, &[name, name, other])
+    let top = word_at(line, 1);
+    let pattern = "  @ has no partner in the schematic: add the rule same_circuits(\"@\", \"@\")";
+    says(pattern, top, top, last_circuit(texts.schematic))
+}
+
+// A layout without devices.
+fn empty_sentence(netlist: &str) -> Sentence<'static> {
+    if netlist.is_empty() || !has_no_device(netlist) {
+        return NONE;
+    }
+    says(
+        "  the layout has no device: look at the layers of the rules' input lines",
+        "",
+        "",
+        "",
+    )
+}
+
+// The line of the first pair of a report that doesn't match, and its line of evidence.
+fn difference_in(report: &str) -> (&str, &str) {
+    let mut pair = "";
+    for line in report.lines() {
+        if !pair.is_empty() {
+            return (pair, line);
+        }
+        if line.starts_with("pair ") && !line.ends_with(" match") {
+            pair = line;
+        }
+    }
+    (pair, "")
+}
+
+// The first pair that doesn't match.
+fn pair_sentence(pair: &str) -> Sentence<'_> {
+    if pair.is_empty() {
+        return NONE;
+    }
+    says(
+        "  first, @ of the layout and @ of the schematic differ:",
+        word_at(pair, 1),
+        word_at(pair, 2),
+        "",
+    )
+}
+
+// What a line of evidence numbers, as `layout net 5`; and how many look like it in the layout and
+// in the schematic.
+fn counted(line: &str) -> Option<(&str, &str, &str)> {
+    let (_, behind) = line.split_once(" of ")?;
+    let (front, schematic) = behind.rsplit_once(" schematic ")?;
+    let (node, layout) = front.rsplit_once(" layout ")?;
+    Some((node, layout, schematic))
+}
+
+fn evidence_sentence(line: &str) -> Sentence<'_> {
+    match counted(line) {
+        Some((node, layout, schematic)) => {
+            let pattern = "  of what looks like @ the layout has @, the schematic @";
+            says(pattern, node, layout, schematic)
+        }
+        None if line.starts_with("guess ") => {
+            says(
+                "  each way to pair what looks alike in it was tried",
+                "",
+                "",
+                "",
+            )
+        }
+        None => NONE,
+    }
+}
+
+fn pair_count(report: &str) -> usize {
+    let mut count: usize = 0;
+    for line in report.lines() {
+        if line.starts_with("pair ") {
+            count = count.saturating_add(1);
+        }
+    }
+    count
 }
 
 // Whether the numbers of the report are those of the netlist's cards and nets: no alike devices
 // were made one, and each circuit is compared as it stands.
 fn is_as_written(texts: &Texts<'_>) -> bool {
-    let is_combined = match str::from_utf8(texts.input) {
-        Ok(rules) => rules.contains("combine_devices"),
-        Err(_) => true,
-    };
-    let pairs = texts
-        .report
-        .lines()
-        .filter(|line| line.starts_with("pair "))
-        .count();
-    !is_combined && pairs == circuit_count(texts.netlist)
+    match str::from_utf8(texts.input) {
+        Ok(rules) if !rules.contains("combine_devices") => {
+            part_count(texts.netlist) == pair_count(texts.report).saturating_add(1)
+        }
+        _ => false,
+    }
 }
 
 // The name or the card of what a line of evidence numbers in a circuit of the layout.
-fn tell_name(
+fn name_sentence<'a>(
     alloc: Global,
-    out: &mut String,
-    texts: &Texts<'_>,
+    texts: &Texts<'a>,
     circuit: &str,
-    line: &str,
-) -> Result<(), AllocError> {
+    line: &'a str,
+) -> Sentence<'a> {
     let (kind, number) = (word_at(line, 4), word_at(line, 5));
     if word_at(line, 3) != "layout" || !is_as_written(texts) {
-        return Ok(());
+        return NONE;
     }
     let place = number.parse::<usize>().unwrap_or(0);
-    match named(alloc, texts.netlist, circuit, kind, place)? {
-        Some(name) => say(out, "  @ @ of the layout is @\n", &[kind, number, name]),
-        None => Ok(()),
+    match named(alloc, texts.netlist, circuit, kind, place) {
+        "" => NONE,
+        name => says("  layout @ @ is @", kind, number, name),
     }
 }
 
-// What differs in a pair, by its line of evidence.
-fn tell_evidence(out: &mut String, line: &str) -> Result<(), AllocError> {
-    if word_at(line, 0) != "round" {
-        return say(
-            out,
-            "  each way to pair what looks alike in it was tried\n",
-            &[],
-        );
-    }
-    let words = [
-        word_at(line, 4),
-        word_at(line, 4),
-        word_at(line, 5),
-        word_at(line, 3),
-        word_at(line, 7),
-        word_at(line, 9),
-    ];
-    let pattern = "  of @s like @ @ of the @ the layout has @, the schematic @\n";
-    say(out, pattern, &words)
-}
+const PAGE: &str = "  lvs view says it by name and place: --page P, and --database P for KLayout";
 
-// The first pair of a report that doesn't match.
-fn tell_pair(alloc: Global, out: &mut String, texts: &Texts<'_>) -> Result<(), AllocError> {
-    let mut lines = texts.report.lines();
-    let Some(pair) = lines.find(|line| line.starts_with("pair ") && !line.ends_with(" match"))
-    else {
-        return Ok(());
-    };
-    let evidence = lines.next().unwrap_or("");
-    let circuit = word_at(pair, 1);
-    let words = [circuit, word_at(pair, 2)];
-    say(
-        out,
-        "  first, @ of the layout and @ of the schematic differ:\n",
-        &words,
-    )?;
-    tell_evidence(out, evidence)?;
-    tell_name(alloc, out, texts, circuit, evidence)
+// What differs, by the report.
+fn tell_difference(alloc: Global, out: &mut String, texts: &Texts<'_>) -> Result<(), AllocError> {
+    let (pair, evidence) = difference_in(texts.report);
+    let name = name_sentence(alloc, texts, word_at(pair, 1), evidence);
+    say(out, &empty_sentence(texts.netlist))?;
+    say(out, &gate_sentence(texts.report))?;
+    say(out, &partner_sentence(texts))?;
+    say(out, &pair_sentence(pair))?;
+    say(out, &evidence_sentence(evidence))?;
+    say(out, &name)?;
+    say(out, &says(PAGE, "", "", ""))
 }
 
 // The first lines of a page.
 fn tell_page(out: &mut String, page: &str) -> Result<(), AllocError> {
     for line in page.lines().skip(1).take(4) {
-        say(out, "  @\n", &[line])?;
+        say(out, &says("  @", line, "", ""))?;
     }
     Ok(())
-}
-
-const PAGE: &str =
-    "  lvs view writes what differs by name and place: --page P, for KLayout --database P\n";
-
-// What differs.
-fn tell_difference(alloc: Global, out: &mut String, texts: &Texts<'_>) -> Result<(), AllocError> {
-    tell_gate(out, texts.report)?;
-    tell_partner(out, texts)?;
-    tell_pair(alloc, out, texts)?;
-    say(out, PAGE, &[])
 }
 
 /// Says what a mismatch is of.
@@ -167,39 +206,42 @@ pub fn tell_mismatch(
     ended: &Ended<'_>,
     texts: &Texts<'_>,
 ) -> Result<(), AllocError> {
-    say(out, "lvs: layout and schematic don't match\n", &[])?;
+    say(
+        out,
+        &says("lvs: layout and schematic don't match", "", "", ""),
+    )?;
     if command_in(ended.words) == "view" {
-        return tell_page(out, texts.report);
+        tell_page(out, texts.report)
+    } else {
+        tell_difference(alloc, out, texts)
     }
-    if !texts.netlist.is_empty() && has_no_device(texts.netlist) {
-        say(
-            out,
-            "  the layout has no device: look at the layers of the rules' input lines\n",
-            &[],
-        )?;
+}
+
+// What a match is worth.
+fn match_sentence(netlist: &str) -> Sentence<'static> {
+    if netlist.is_empty() || !has_no_device(netlist) {
+        return says("lvs: layout and schematic match", "", "", "");
     }
-    tell_difference(alloc, out, texts)
+    says(
+        "lvs: warning: nothing was compared: neither side has a device",
+        "",
+        "",
+        "",
+    )
 }
 
 /// Says what a match is worth.
 pub fn tell_match(out: &mut String, texts: &Texts<'_>) -> Result<(), AllocError> {
-    say(out, "lvs: layout and schematic match\n", &[])?;
-    if !texts.netlist.is_empty() && has_no_device(texts.netlist) {
-        return say(
-            out,
-            "lvs: warning: nothing was compared: neither side has a device\n",
-            &[],
-        );
-    }
-    Ok(())
+    say(out, &match_sentence(texts.netlist))
 }
+
+const SCALE: &str =
+    "lvs: warning: the schematic's .OPTION SCALE was passed over: sizes count as they stand";
 
 /// Warns of what a comparison passes over in a schematic.
 pub fn warn_schematic(out: &mut String, schematic: &str) -> Result<(), AllocError> {
     if !has_scale(schematic) {
         return Ok(());
     }
-    let text =
-        "lvs: warning: .OPTION SCALE of the schematic was passed over: sizes are compared as they stand\n";
-    say(out, text, &[])
+    say(out, &says(SCALE, "", "", ""))
 }

@@ -1,6 +1,6 @@
 //! What `help` prints.
 
-use crate::sentence::say;
+use crate::sentence::{say, says};
 use crate::table::{CHOICES, COMMANDS, command_of, is_listed};
 use std::alloc::AllocError;
 
@@ -20,7 +20,7 @@ The line on standard output is for scripts, what is on standard error for people
 fn add_all(out: &mut String) -> Result<(), AllocError> {
     out.push_str(HEAD)?;
     for command in COMMANDS.iter() {
-        say(out, "lvs @\n    @\n", &[command.form, command.text])?;
+        say(out, &says("lvs @\n    @", command.form, command.text, ""))?;
     }
     out.push_str(TAIL)
 }
@@ -30,10 +30,13 @@ pub fn add_help(out: &mut String, name: &str) -> Result<(), AllocError> {
     let Some(command) = command_of(name) else {
         return add_all(out);
     };
-    say(out, "lvs @\n    @\n", &[command.form, command.text])?;
+    say(out, &says("lvs @\n    @", command.form, command.text, ""))?;
     for choice in CHOICES.iter() {
         if is_listed(choice.takers, name) {
-            say(out, "  @ @: @\n", &[choice.name, choice.value, choice.text])?;
+            say(
+                out,
+                &says("  @ @: @", choice.name, choice.value, choice.text),
+            )?;
         }
     }
     Ok(())

@@ -4,50 +4,69 @@ use crate::words::word_at;
 use indexmap::IndexSet;
 use std::alloc::{AllocError, Global};
 
-// Whether a card is that of a device.
+// Whether a card of a written netlist is that of a device.
 fn is_device(card: &str) -> bool {
-    card.starts_with(|c: char| matches!(c, 'M' | 'R' | 'D' | 'm' | 'r' | 'd'))
+    matches!(card.as_bytes(), [b'M' | b'R' | b'D', ..])
 }
 
-/// Whether no card of a netlist is that of a device.
+/// Whether a written netlist has no device.
 pub fn has_no_device(netlist: &str) -> bool {
-    !netlist.lines().any(|line| is_device(line))
+    for line in netlist.lines() {
+        if is_device(line) {
+            return false;
+        }
+    }
+    true
 }
 
-/// The name of the last circuit of a netlist, where it has one.
-pub fn last_circuit(netlist: &str) -> Option<&str> {
-    let line = netlist
-        .lines()
-        .filter(|line| word_at(line, 0).eq_ignore_ascii_case(".SUBCKT"))
-        .last()?;
-    Some(word_at(line, 1))
+/// The name of the last circuit of a netlist; nothing where it has none.
+pub fn last_circuit(netlist: &str) -> &str {
+    let mut name = "";
+    for line in netlist.lines() {
+        if word_at(line, 0).eq_ignore_ascii_case(".SUBCKT") {
+            name = word_at(line, 1);
+        }
+    }
+    name
+}
+
+fn is_scale(line: &str) -> bool {
+    for word in line.split_whitespace() {
+        if let Some((name, _)) = word.split_once('=') {
+            if name.eq_ignore_ascii_case("SCALE") {
+                return true;
+            }
+        }
+    }
+    false
 }
 
 /// Whether an option of a schematic changes sizes, which a run reads as they stand.
 pub fn has_scale(schematic: &str) -> bool {
-    schematic.lines().any(|line| is_scale(line))
+    for line in schematic.lines() {
+        let card = word_at(line, 0);
+        let is_option = card.eq_ignore_ascii_case(".OPTION")
+            || card.eq_ignore_ascii_case(".OPTIONS");
+        if is_option && is_scale(line) {
+            return true;
+        }
+    }
+    false
 }
 
-fn is_scale(line: &str) -> bool {
-    let card = word_at(line, 0);
-    let is_option = card.eq_ignore_ascii_case(".OPTION") || card.eq_ignore_ascii_case(".OPTIONS");
-    is_option
-        && line.split_whitespace().any(
-            |word| matches!(word.get(..5), Some(front) if front.eq_ignore_ascii_case("scale")),
-        )
-}
-
-/// How many circuits a written netlist has.
-pub fn circuit_count(netlist: &str) -> usize {
-    netlist.split(".SUBCKT ").skip(1).count()
+/// How many circuits a written netlist has, and one more.
+pub fn part_count(netlist: &str) -> usize {
+    netlist.split(".SUBCKT ").count()
 }
 
 // The circuit of a name in a written netlist: its name and pins, and its cards.
-fn circuit_of<'a>(netlist: &'a str, name: &str) -> Option<&'a str> {
-    netlist
-        .split(".SUBCKT ")
-        .skip(1)
-        .find(|circuit| word_at(circuit, 0) == name)
+fn circuit_of<'a>(netlist: &'a str, name: &str) -> &'a str {
+    for circuit in netlist.split(".SUBCKT ") {
+        if word_at(circuit, 0) == name {
+            return circuit;
+        }
+    }
+    ""
 }
 
 // How many words behind a card's first are nets.
@@ -73,39 +92,53 @@ fn add_nets<'a>(
     Ok(())
 }
 
-// The net of this number, from 0: pins first, then as the cards first name them.
-fn net_at<'a>(
-    alloc: Global,
-    circuit: &'a str,
-    number: usize,
-) -> Result<Option<&'a str>, AllocError> {
-    let mut nets = IndexSet::new(alloc);
-    add_nets(&mut nets, circuit.lines().next().unwrap_or(""), usize::MAX)?;
+// Adds the nets of a circuit, pins first, then as the cards first name them.
+fn add_all<'a>(nets: &mut IndexSet<&'a str>, circuit: &'a str) -> Result<(), AllocError> {
+    add_nets(nets, circuit.lines().next().unwrap_or(""), usize::MAX)?;
     for card in circuit.lines().skip(1) {
-        add_nets(&mut nets, card, net_count(card))?;
+        add_nets(nets, card, net_count(card))?;
     }
-    Ok(nets.get_index(number).copied())
+    Ok(())
+}
+
+// The net of this number, from 0; nothing where there is none, or no memory.
+fn net_at<'a>(alloc: Global, circuit: &'a str, number: usize) -> &'a str {
+    let mut nets = IndexSet::new(alloc);
+    if add_all(&mut nets, circuit).is_err() {
+        return "";
+    }
+    nets.get_index(number).copied().unwrap_or("")
+}
+
+// The card of a device or of a call of this number, from 0; nothing where there is none.
+fn card_at<'a>(circuit: &'a str, kind: &str, number: usize) -> &'a str {
+    let mut left = number;
+    for card in circuit.lines().skip(1) {
+        let is_call = card.starts_with('X');
+        if (kind == "call" && is_call) || (kind == "device" && is_device(card)) {
+            if left == 0 {
+                return card;
+            }
+            left = left.saturating_sub(1);
+        }
+    }
+    ""
 }
 
 /// What is called so and has this number, from 1, in a circuit of a written netlist: a net's name,
-/// or the card of a device or of a call.
+/// or the card of a device or of a call; nothing where there is none. Linear in the netlist.
 pub fn named<'a>(
     alloc: Global,
     netlist: &'a str,
     name: &str,
     kind: &str,
     number: usize,
-) -> Result<Option<&'a str>, AllocError> {
-    let Some(circuit) = circuit_of(netlist, name) else {
-        return Ok(None);
-    };
+) -> &'a str {
+    let circuit = circuit_of(netlist, name);
     let place = number.saturating_sub(1);
     if kind == "net" {
-        return net_at(alloc, circuit, place);
+        net_at(alloc, circuit, place)
+    } else {
+        card_at(circuit, kind, place)
     }
-    let mut cards = circuit.lines().skip(1);
-    if kind == "call" {
-        return Ok(cards.filter(|card| card.starts_with('X')).nth(place));
-    }
-    Ok(cards.filter(|card| is_device(card)).nth(place))
 }

@@ -2,7 +2,8 @@
 
 use std::alloc::AllocError;
 
-/// A sentence: the words stand at the marks `@` of the pattern, in their order.
+/// A line for people: the words stand at the marks `@` of the pattern, in their order. An empty
+/// pattern is no line.
 #[derive(Clone, Copy)]
 pub struct Sentence<'a> {
     pub pattern: &'static str,
@@ -21,14 +22,26 @@ pub fn says<'a>(pattern: &'static str, one: &'a str, two: &'a str, three: &'a st
     }
 }
 
-/// Adds a pattern with these words at its marks; a mark without a word is left out.
-pub fn say(out: &mut String, pattern: &str, words: &[&str]) -> Result<(), AllocError> {
+/// No sentence.
+pub const NONE: Sentence<'static> = Sentence {
+    pattern: "",
+    one: "",
+    two: "",
+    three: "",
+};
+
+/// Adds a sentence, and the line's end.
+pub fn say(out: &mut String, sentence: &Sentence<'_>) -> Result<(), AllocError> {
+    if sentence.pattern.is_empty() {
+        return Ok(());
+    }
+    let words = [sentence.one, sentence.two, sentence.three];
     let mut more = words.iter();
-    for part in pattern.split('@') {
+    for part in sentence.pattern.split('@') {
         out.push_str(part)?;
         if let Some(word) = more.next() {
             out.push_str(word)?;
         }
     }
-    Ok(())
+    out.push_str("\n")
 }

@@ -1,6 +1,6 @@
 //! What is wrong with words that state no command.
 
-use crate::sentence::{Sentence, says};
+use crate::sentence::{NONE, Sentence, says};
 use crate::table::{CHOICES, Choice, choice_of, command_of, is_listed, near_choice, near_command};
 
 // What was read of the words of a command so far: nothing is begun, the value of an option is to
@@ -21,7 +21,7 @@ pub fn spells(word: &str, name: &str) -> bool {
 }
 
 fn is_number(word: &str, low: u64, high: u64) -> bool {
-    if word.bytes().any(|byte| !byte.is_ascii_digit()) {
+    if word.starts_with('+') {
         return false;
     }
     match word.parse::<u64>() {
@@ -33,10 +33,10 @@ fn is_number(word: &str, low: u64, high: u64) -> bool {
 // Of a path that stands by itself.
 fn path_slip(word: &str) -> Option<Sentence<'_>> {
     if word.is_empty() {
-        return Some(says("a path is empty", "", "", ""));
+        return Some(says("lvs: a path is empty", "", "", ""));
     }
     if word.starts_with('-') {
-        let pattern = "`@` begins with `-`, as options do; a file of this name is written ./@";
+        let pattern = "lvs: `@` begins with `-`, as options do; a file of this name is written ./@";
         return Some(says(pattern, word, word, ""));
     }
     None
@@ -45,14 +45,14 @@ fn path_slip(word: &str) -> Option<Sentence<'_>> {
 // Of an option's value.
 fn value_slip<'a>(name: &'static str, value: &'a str) -> State<'a> {
     if value.is_empty() {
-        return State::Wrong(says("`@` has no value behind it", name, "", ""));
+        return State::Wrong(says("lvs: `@` has no value behind it", name, "", ""));
     }
     if value.starts_with('-') {
-        let pattern = "`@` has no value behind it but `@`; a file of this name is written ./@";
+        let pattern = "lvs: `@` has no value behind it but `@`; a file of this name is written ./@";
         return State::Wrong(says(pattern, name, value, value));
     }
     if name == "--workers" && !is_number(value, 1, 64) {
-        let pattern = "`--workers` is a number from 1 to 64, and not `@`";
+        let pattern = "lvs: `--workers` is a number from 1 to 64, and not `@`";
         return State::Wrong(says(pattern, value, "", ""));
     }
     State::Between
@@ -64,9 +64,14 @@ fn stranger<'a>(command: &'static str, word: &'a str) -> State<'a> {
         return State::Between;
     }
     let sentence = match near_choice(command, word) {
-        Some(name) => says("`@` has no option `@`; is `@` meant?", command, word, name),
-        None if word.starts_with('-') => says("`@` has no option `@`", command, word, ""),
-        None => says("`@` stands behind no option of `@`", word, command, ""),
+        Some(name) => says(
+            "lvs: `@` has no option `@`; is `@` meant?",
+            command,
+            word,
+            name,
+        ),
+        None if word.starts_with('-') => says("lvs: `@` has no option `@`", command, word, ""),
+        None => says("lvs: `@` stands behind no option of `@`", word, command, ""),
     };
     State::Wrong(sentence)
 }
@@ -96,57 +101,65 @@ fn read_on<'a>(command: &'static str, state: State<'a>, word: &'a str) -> State<
 }
 
 fn times(words: &[String], name: &str) -> usize {
-    words
-        .iter()
-        .filter(|word| spells(word.as_str(), name))
-        .count()
+    let mut count: usize = 0;
+    for word in words.iter() {
+        if spells(word.as_str(), name) {
+            count = count.saturating_add(1);
+        }
+    }
+    count
 }
 
-// An option that stands twice.
-fn twice(words: &[String]) -> Option<&'static Choice> {
-    CHOICES.iter().find(|choice| times(words, choice.name) > 1)
-}
-
-// An option that a command needs and that doesn't stand there.
-fn lacking(command: &str, words: &[String]) -> Option<&'static Choice> {
-    CHOICES.iter().find(|choice| is_listed(choice.needers, command)
-        && times(words, choice.name) == 0)
+// What is wrong with how often an option stands among the words of a command.
+fn count_slip<'a>(
+    command: &'static str,
+    words: &[String],
+    choice: &'static Choice,
+) -> Sentence<'a> {
+    let count = times(words, choice.name);
+    if count > 1 {
+        return says("lvs: `@` stands twice", choice.name, "", "");
+    }
+    if count == 0 && is_listed(choice.needers, command) {
+        return says("lvs: `@` lacks `@ P`: @", command, choice.name, choice.text);
+    }
+    NONE
 }
 
 // Of words that are options with their values, each by itself.
 fn list_slip<'a>(command: &'static str, words: &'a [String]) -> Sentence<'a> {
-    if let Some(choice) = twice(words) {
-        return says("`@` stands twice", choice.name, "", "");
+    for choice in CHOICES.iter() {
+        let slip = count_slip(command, words, choice);
+        if !slip.pattern.is_empty() {
+            return slip;
+        }
     }
-    match lacking(command, words) {
-        Some(choice) => says("`@` lacks `@ P`: @", command, choice.name, choice.text),
-        None => says("`@` names no file to read", command, "", ""),
-    }
+    says("lvs: `@` names no file to read", command, "", "")
 }
 
 // Of the words of a command that takes options.
 fn option_slip<'a>(command: &'static str, words: &'a [String]) -> Sentence<'a> {
-    let state = words.iter().fold(
-        State::Between,
-        |state, word| read_on(command, state, word.as_str()),
-    );
+    let mut state = State::Between;
+    for word in words.iter() {
+        state = read_on(command, state, word.as_str());
+    }
     match state {
         State::Wrong(sentence) => sentence,
-        State::Behind(name) => says("`@` has no value behind it", name, "", ""),
+        State::Behind(name) => says("lvs: `@` has no value behind it", name, "", ""),
         State::Between => list_slip(command, words),
     }
 }
 
-const OTHER_WORDS: &str = "`@` takes other words than these";
+const OTHER_WORDS: &str = "lvs: `@` takes other words than these";
 
 fn shapes_slip(words: &[String]) -> Sentence<'_> {
-    if words.len() != 3 {
+    let [layout, rules, shapes] = words else {
         return says(OTHER_WORDS, "shapes", "", "");
-    }
-    match words.iter().find_map(|word| path_slip(word.as_str())) {
-        Some(sentence) => sentence,
-        None => says(OTHER_WORDS, "shapes", "", ""),
-    }
+    };
+    path_slip(layout.as_str())
+        .or(path_slip(rules.as_str()))
+        .or(path_slip(shapes.as_str()))
+        .unwrap_or(says(OTHER_WORDS, "shapes", "", ""))
 }
 
 fn make_slip(words: &[String]) -> Sentence<'_> {
@@ -155,7 +168,7 @@ fn make_slip(words: &[String]) -> Sentence<'_> {
     };
     if !is_number(n.as_str(), 1, 100_000) {
         return says(
-            "N is a number from 1 to 100000, and not `@`",
+            "lvs: N is a number from 1 to 100000, and not `@`",
             n.as_str(),
             "",
             "",
@@ -163,7 +176,7 @@ fn make_slip(words: &[String]) -> Sentence<'_> {
     }
     if !is_number(seed.as_str(), 0, u64::MAX) {
         return says(
-            "SEED is a number below 2^64, and not `@`",
+            "lvs: SEED is a number below 2^64, and not `@`",
             seed.as_str(),
             "",
             "",
@@ -171,7 +184,7 @@ fn make_slip(words: &[String]) -> Sentence<'_> {
     }
     if !is_number(workers.as_str(), 1, 64) {
         return says(
-            "WORKERS is a number from 1 to 64, and not `@`",
+            "lvs: WORKERS is a number from 1 to 64, and not `@`",
             workers.as_str(),
             "",
             "",
@@ -185,24 +198,24 @@ fn make_slip(words: &[String]) -> Sentence<'_> {
 
 // Of a first word that is no command.
 fn command_slip(word: &str) -> Sentence<'_> {
-    if let Some(command) = near_command(word) {
+    if let Some(name) = near_command(word) {
         return says(
-            "there is no command `@`; is `@` meant?",
+            "lvs: there is no command `@`; is `@` meant?",
             word,
-            command.name,
+            name,
             "",
         );
     }
     if word.starts_with('-') || word.contains('.') || word.contains('/') {
         return says(
-            "the command stands first, and not `@`; `lvs help` lists the commands",
+            "lvs: the command stands first, and not `@`; `lvs help` lists the commands",
             word,
             "",
             "",
         );
     }
     says(
-        "there is no command `@`; `lvs help` lists the commands",
+        "lvs: there is no command `@`; `lvs help` lists the commands",
         word,
         "",
         "",
@@ -213,7 +226,7 @@ fn command_slip(word: &str) -> Sentence<'_> {
 pub fn slip_of(words: &[String]) -> Sentence<'_> {
     let [first, more @ ..] = words else {
         return says(
-            "there is no command; `lvs help` lists the commands",
+            "lvs: there is no command; `lvs help` lists the commands",
             "",
             "",
             "",

@@ -43,15 +43,17 @@ pub fn cell_at(bytes: &[u8], offset: usize) -> &str {
     cell
 }
 
-/// The first cell whose name is near to one. One pass.
-pub fn near_cell<'a>(bytes: &'a [u8], name: &str) -> Option<&'a str> {
+/// The first cell whose name is near to one; nothing where there is none. One pass.
+pub fn near_cell<'a>(bytes: &'a [u8], name: &str) -> &'a str {
     let mut rest = bytes;
     for _ in 0..bytes.len() {
-        let (kind, body, behind) = next_record(rest)?;
+        let Some((kind, body, behind)) = next_record(rest) else {
+            return "";
+        };
         if kind == CELL_NAME && is_near(name, name_of(body)) {
-            return Some(name_of(body));
+            return name_of(body);
         }
         rest = behind;
     }
-    None
+    ""
 }

@@ -1,6 +1,6 @@
 //! The commands and their options.
 
-use crate::near::is_near;
+use crate::near::{beside, is_near};
 
 /// A command: its name, the words behind it, and what it is for.
 pub struct Command {
@@ -177,32 +177,52 @@ static OTHERS: [(&str, &str); 8] = [
 
 /// Whether a command stands in a list of names.
 pub fn is_listed(names: &str, command: &str) -> bool {
-    names.split(' ').any(|name| name == command)
+    for name in names.split(' ') {
+        if name == command {
+            return true;
+        }
+    }
+    false
 }
 
 /// The command of this name.
 pub fn command_of(name: &str) -> Option<&'static Command> {
-    COMMANDS.iter().find(|command| command.name == name)
+    for command in COMMANDS.iter() {
+        if command.name == name {
+            return Some(command);
+        }
+    }
+    None
 }
 
-/// A command whose name is near to a word.
-pub fn near_command(word: &str) -> Option<&'static Command> {
-    COMMANDS.iter().find(|command| is_near(word, command.name))
+/// The name of a command that is near to a word.
+pub fn near_command(word: &str) -> Option<&'static str> {
+    for command in COMMANDS.iter() {
+        if is_near(word, command.name) {
+            return Some(command.name);
+        }
+    }
+    None
 }
 
 /// The option of this name that a command takes.
 pub fn choice_of(command: &str, name: &str) -> Option<&'static Choice> {
-    CHOICES.iter().find(|choice| choice.name == name && is_listed(choice.takers, command))
+    for choice in CHOICES.iter() {
+        if choice.name == name && is_listed(choice.takers, command) {
+            return Some(choice);
+        }
+    }
+    None
 }
 
 /// The name of an option of a command that is meant by a word which is none: a near one, or one
 /// that other programs call so.
 pub fn near_choice(command: &str, word: &str) -> Option<&'static str> {
-    let meant = match OTHERS.iter().find(|pair| pair.0 == word) {
-        Some(pair) => pair.1,
-        None => word,
-    };
-    let found = CHOICES.iter().find(|choice| is_near(meant, choice.name)
-        && is_listed(choice.takers, command))?;
-    Some(found.name)
+    let meant = beside(&OTHERS, word).unwrap_or(word);
+    for choice in CHOICES.iter() {
+        if is_near(meant, choice.name) && is_listed(choice.takers, command) {
+            return Some(choice.name);
+        }
+    }
+    None
 }

@@ -1,5 +1,7 @@
 //! Words of a run, and words of lines.
 
+use crate::near::beside;
+
 /// A run that ended: its words, its exit status, and the line that it sent.
 #[derive(Clone, Copy)]
 pub struct Ended<'a> {
@@ -68,9 +70,8 @@ static INPUTS: [(&str, &str); 3] = [
 // The path of the input that a refusal speaks of.
 fn refused_path<'a>(ended: &Ended<'a>) -> &'a str {
     let reason = reason_of(ended.line);
-    let key = word_at(reason, 0);
-    if let Some(input) = INPUTS.iter().find(|input| input.0 == key) {
-        return input_of(ended.words, input.1);
+    if let Some(name) = beside(&INPUTS, word_at(reason, 0)) {
+        return input_of(ended.words, name);
     }
     match reason.split_once(" line ") {
         Some((path, _)) => path,
