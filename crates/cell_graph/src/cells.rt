@@ -18,7 +18,7 @@ pub struct OwnLayer {
 pub fn is_same_key(a: LayerKey, b: LayerKey) -> bool
     ensures { result ≡ is_same_key a b }
 {
-    a.layer == b.layer && a.datatype == b.datatype
+    a.is_same(b)
 }
 
 /// A text with its point.

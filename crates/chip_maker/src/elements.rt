@@ -2,6 +2,7 @@
 
 ghost use Rattle.std.specs.Prelude.{◌≡◌, ◌<◌, ◌≤◌, ◌++◌, [], ◌∷◌, map, length, OnOk, IfOk};
 ghost use Rattle.std.specs.List.{flat_map};
+ghost use Rattle.geo_base.specs.Layers.{IsStreamKey};
 ghost use Rattle.geo_base.specs.Near.{IsLongRect};
 ghost use Rattle.gds_shapes.specs.Data.{IsShort, point_bytes};
 ghost use Rattle.gds_records.specs.Kinds.{STRING};
@@ -19,10 +20,11 @@ use std::alloc::{AllocError, Global};
 
 /// A layer of shapes.
 pub fn drawn(number: u16) -> LayerKey
-    ensures { result ≡ drawn number }
+    ensures is { result ≡ drawn number }
+    ensures stream { IsStreamKey result }
 {
     LayerKey {
-        layer: number,
+        layer: u32::from(number),
         datatype: 0,
     }
 }
@@ -43,7 +45,8 @@ fn rect_of(sides: [u16; 4]) -> Rect
 
 /// Appends a rectangle on a layer, of coordinates of 32 bits.
 pub fn write_rectangle(out: &mut Vec<u8>, key: LayerKey, rect: Rect) -> Result<(), AllocError>
-    requires { IsLongRect rect }
+    requires key { IsStreamKey key }
+    requires long { IsLongRect rect }
     ensures { OnOk result (out.new.items ≡ out.old.items ++ rect_bytes key rect) }
 {
     write_layer(out, key, &[rect])

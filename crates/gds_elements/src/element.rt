@@ -118,7 +118,7 @@ impl Drawing {
         ensures { result ≡ record { layer = self.now.layer; datatype = self.now.datatype } }
     {
         LayerKey {
-            layer: self.layer,
+            layer: u32::from(self.layer),
             datatype: self.datatype,
         }
     }

@@ -7,6 +7,7 @@ use Rattle.std.proofs.lemmas.List.Elements.{All-head, All-tail}
 use Rattle.geo_base.specs.declared.layer.LayerKey.{LayerKey}
 use Rattle.geo_base.specs.declared.shapes.Point.{Point}
 use Rattle.geo_base.specs.declared.shapes.Rect.{Rect}
+use Rattle.geo_base.specs.Layers.{IsStreamKey}
 use Rattle.geo_base.specs.Near.{IsLongRect}
 use Rattle.gds_records.specs.Records.{IsRecord, Records, ◌▸◌, followed_by_all}
 use Rattle.gds_grammar.specs.Pattern.{Pattern, after_any}
@@ -17,7 +18,7 @@ use Rattle.gds_elements.specs.Meaning.{Boundary, Shape, Ref, Cell, opened, open_
 use Rattle.gds_elements.specs.Faults.{fault_of}
 use Rattle.gds_elements.specs.Reading.{rec}
 use Rattle.gds_shapes.specs.Data.{bare, number}
-use Rattle.gds_shapes.specs.Stream.{Heading, Drawn, IsKey, FitsLayer, boundary, layer, outline}
+use Rattle.gds_shapes.specs.Stream.{Heading, Drawn, FitsLayer, boundary, layer, outline}
 use Rattle.gds_shapes.specs.Accepted.{rect_shape, layer_shapes}
 use Rattle.gds_shapes.proofs.Bodies.{outline_bytes, number_back, same_corners}
 use Rattle.gds_shapes.proofs.Outlines.{outline_whole, outline_passes}
@@ -26,7 +27,7 @@ use Rattle.gds_shapes.proofs.Context.{inside, InCell, passes_next, never_unfinis
 xy_record : (r : Rect) → IsRecord (rec XY 3 (outline r))
 xy_record r = record { kind = refl; form = omega arith; even = refl; short = omega arith; bytes = outline_bytes r }
 
-boundary_more : (h : Heading) (cells : List Cell) (cell : Drawn) (shapes : List Shape) (refs : List Ref) (rs : Records) (key : LayerKey) (r : Rect) → IsKey key → IsLongRect r
+boundary_more : (h : Heading) (cells : List Cell) (cell : Drawn) (shapes : List Shape) (refs : List Ref) (rs : Records) (key : LayerKey) (r : Rect) → IsStreamKey key → IsLongRect r
     → InCell h cells cell shapes refs rs → InCell h cells cell (shapes ++ rect_shape key r ∷ []) refs (followed_by_all rs (boundary key r))
 boundary_more h cells cell shapes refs rs key r k l s =
     let b = rs ▸ bare BOUNDARY in
@@ -62,7 +63,7 @@ boundary_more h cells cell shapes refs rs key r k l s =
       body = body_end cell shapes refs x (rect_shape key r ∷ []) [] body_x shape refl refl;
     }
 
-rects_more : (h : Heading) (cells : List Cell) (cell : Drawn) (shapes : List Shape) (refs : List Ref) (rs : Records) (key : LayerKey) (rects : List Rect) → IsKey key → All IsLongRect rects
+rects_more : (h : Heading) (cells : List Cell) (cell : Drawn) (shapes : List Shape) (refs : List Ref) (rs : Records) (key : LayerKey) (rects : List Rect) → IsStreamKey key → All IsLongRect rects
     → InCell h cells cell shapes refs rs
     → InCell h cells cell (shapes ++ map (λ r. rect_shape key r) rects) refs (followed_by_all rs (flat_map (λ r. boundary key r) rects))
 rects_more h cells cell shapes refs rs key [] k l s = let P : List Shape → Type 0 = λ xs. InCell h cells cell xs refs rs in subst P (sym (append-nil shapes)) s

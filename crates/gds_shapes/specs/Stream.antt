@@ -2,6 +2,7 @@
 -- written as (GDSII Stream Format, Release 6).
 use Rattle.std.specs.Prelude.{ℕ, ◌^◌, ◌<◌, List, [], ◌∷◌, ◌++◌}
 use Rattle.std.specs.List.{All, flat_map}
+use Rattle.geo_base.specs.Layers.{IsStreamKey}
 use Rattle.geo_base.specs.Near.{IsLongRect}
 use Rattle.geo_base.specs.declared.layer.LayerKey.{LayerKey}
 use Rattle.geo_base.specs.declared.shapes.Point.{Point}
@@ -82,14 +83,9 @@ heading_of library = record {
 
 -- ---- what can be written
 
--- two bytes hold each number
-pub record IsKey (key : LayerKey) : Type 0 where
-  pub layer : key.layer < 2 ^ 16
-  pub datatype : key.datatype < 2 ^ 16
-
 -- a layer's numbers and coordinates have room in their records
 pub record FitsLayer (l : LayerKey × List Rect) : Type 0 where
-  pub key : IsKey l.0
+  pub key : IsStreamKey l.0
   pub rects : All IsLongRect l.1
 
 -- what stands before the cells, as it is seen

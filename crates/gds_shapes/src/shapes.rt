@@ -3,6 +3,7 @@
 ghost use Rattle.std.specs.Prelude.{◌≡◌, ◌++◌, OnOk};
 ghost use Rattle.std.specs.List.{All, flat_map};
 ghost use Rattle.gds_records.specs.Records.{record_bytes};
+ghost use Rattle.geo_base.specs.Layers.{IsStreamKey};
 ghost use Rattle.geo_base.specs.Near.{IsLongRect};
 ghost use Rattle.gds_shapes.specs.Stream.{FitsLayer, boundary, layer, outline};
 
@@ -15,7 +16,8 @@ use std::alloc::AllocError;
 /// Appends the rectangles of a layer in order, each as a boundary, of coordinates of 32 bits. An
 /// `Err` is want of memory; then a part may be appended. Cost: the bytes written.
 pub fn write_layer(out: &mut Vec<u8>, key: LayerKey, rects: &[Rect]) -> Result<(), AllocError>
-    requires { All IsLongRect rects.now }
+    requires key { IsStreamKey key }
+    requires long { All IsLongRect rects.now }
     ensures written { OnOk result (out.new.items ≡ out.old.items ++ flat_map record_bytes (layer
         (key, rects.now))) }
     ensures fits { OnOk result (FitsLayer (key, rects.now)) }
@@ -27,12 +29,18 @@ pub fn write_layer(out: &mut Vec<u8>, key: LayerKey, rects: &[Rect]) -> Result<(
 }
 
 fn write_boundary(out: &mut Vec<u8>, key: LayerKey, rect: Rect) -> Result<(), AllocError>
-    requires { IsLongRect rect }
+    requires key { IsStreamKey key }
+    requires long { IsLongRect rect }
     ensures { OnOk result (out.new.items ≡ out.old.items ++ flat_map record_bytes
         (boundary key rect)) }
 {
     write_record(out, kinds::BOUNDARY, NONE, &[])?;
-    write_record(out, kinds::LAYER, NUMBERS, &key.layer.to_be_bytes())?;
+    write_record(
+        out,
+        kinds::LAYER,
+        NUMBERS,
+        &(key.layer as u16).to_be_bytes(),
+    )?;
     write_record(out, kinds::DATATYPE, NUMBERS, &key.datatype.to_be_bytes())?;
     let points = outline(rect);
     write_record(out, kinds::XY, LONGS, &points)?;

@@ -1,9 +1,10 @@
 //! Layers of a GDSII stream, and their operators.
 
-/// A layer of a GDSII stream: layer number and datatype (or texttype), each 0 to 65,535.
+/// A layer: its number and its datatype (or texttype). Those of a stream have numbers from 0 to
+/// 65,535; a layer that isn't drawn may have a greater one.
 #[derive(Clone, Copy, Debug, PartialEq, Eq, PartialOrd, Ord, Hash)]
 pub struct LayerKey {
-    pub layer: u16,
+    pub layer: u32,
     pub datatype: u16,
 }
 

@@ -84,6 +84,7 @@ can_write at l r table cell sound sound_rules are writable narrow reached =
       name = subst (λ (o : Option CellPart). IsNamed (name_of o)) (sym c.1) can.name;
       refs = subst (λ (o : Option CellPart). All (λ p. FitsReference (ref_of d p)) (places_at o)) (sym c.1) can.refs;
       lines = entries (CanWriteLine table cell) r.outputs (λ k o e. record {
+        key = sound_rules.formed.written k o e;
         held = held_line at d r table cell o are reached (sound_rules.formed.outputs k o e).below;
         long = narrow_line table r cell k o (false_from_ne_true (has_wide_line table r cell) (λ h. narrow (inl h))) e;
       });

@@ -2,6 +2,7 @@
 use Rattle.std.specs.Prelude.{◌≡◌, ℕ, ◌<◌, List, [], ◌∷◌, length, Option, Some, IsSome, slice_get}
 use Rattle.std.specs.List.{All}
 use Rattle.flat_layout.specs.Arrays.{Reference, places_of}
+use Rattle.geo_base.specs.Layers.{IsStreamKey}
 use Rattle.geo_base.specs.Near.{IsLongRect}
 use Rattle.cell_graph.specs.Linked.{Linked, reference, cell_at, places_at}
 use Rattle.cell_graph.specs.declared.cells.Place.{Place}
@@ -30,8 +31,9 @@ pub record IsWritable (l : Layout) : Type 0 where
   pub each : (i : ℕ) (c : CellPart) → slice_get l.design.cells i ≡ Some c
       → IsWritableCell l.design c
 
--- the table has what the cell holds of an output line, and that has room
+-- the table has what the cell holds of an output line, and that and the line's layer have room
 pub record CanWriteLine (table : List (Option CellLayers)) (cell : ℕ) (o : Output) : Type 0 where
+  pub key : IsStreamKey o.key
   pub held : IsSome (layer_of table cell o.layer)
   pub long : All IsLongRect (line_of table cell o).1
 

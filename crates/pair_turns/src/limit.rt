@@ -10,6 +10,7 @@ ghost use Rattle.pair_turns.specs.Limit.{AreSizes, IsLimit, call_rows, capped, i
 ghost use Rattle.plain_netlist.specs.Sound.{IsGood};
 
 use call_order::{CallOrder, call_order};
+use list_base::number;
 use net_model::{CallRow, Circuit, Netlist, call_lists};
 use std::alloc::{AllocError, Global};
 
@@ -123,9 +124,7 @@ pub fn first_over(
     requires goes { length goes.now ≡ length left.now.circuits.items }
     ensures { IfOk result (IsLimit (plain_netlist left.now) (plain_netlist right.now) goes.now) }
 {
-    if goes.len() > u32::MAX as usize {
-        return Err(AllocError);
-    }
+    number(goes.len())?;
     let lefts = sizes(alloc, left, goes)?;
     let rights = sizes(alloc, right, goes)?;
     'pairs: for k in 0..goes.len() {

@@ -8,6 +8,7 @@ ghost use Rattle.net_model.specs.Rows.{plain_circuit, plain_netlist};
 ghost use Rattle.pair_turns.specs.Going.{AreGoing, calls_none, is_difference, takes_apart};
 
 use job_graph::{Reads, Results};
+use list_base::number;
 use match_types::{Answer, Evidence};
 use net_model::{CallRow, Circuit, Netlist};
 use std::alloc::{AllocError, Global};
@@ -83,7 +84,7 @@ pub fn going(
     ensures { IfOk result (λ goes. AreGoing (plain_netlist left.now) (plain_netlist right.now)
         (map plain_answer answers.now) goes.items) }
 {
-    let count = u32::try_from(answers.len()).map_err(|_| AllocError)?;
+    let count = number(answers.len())?;
     let mut goes = vec![in alloc; false; answers.len()]?;
     'pairs: for k in 0..count {
         if is_difference(answers.get(k)) {

@@ -19,7 +19,7 @@ use Rattle.rule_text.specs.declared.rules.MoreRule.{MoreRule}
 use Rattle.rule_text.specs.declared.rules.MoreRule.TheVariants as more
 use Rattle.rule_text.specs.Rows.{is_string, Form, Input, Labels, Empty, Binary, Sized, Mos, More, Resistor, Diode, Statement, Define, Draw, Connect, Global, Extract, Further, Same, FlattenLayout, FlattenSchematic, FlattenUnmatched, SamePins, Combine, MaxGuesses, Accepted}
 use Rattle.rule_text.specs.Rules.{Rules, no_rules, names_of, place_of, is_defined, is_text_rule, has_texts, is_labels, operands_of, uses_of, reach_of, is_far, is_twice, is_misplaced, statement_fault, numbered, mos_rule, further_rule, class_in, has_class, mos_classes, more_classes, named, drawn, extracting, going_on, paired, names_layout, names_schematic, flattening_layout, flattening_schematic, with_statement}
-use Rattle.geo_base.specs.Layers.{is_same_key}
+use Rattle.geo_base.specs.Layers.{IsStreamKey, is_same_key}
 use Rattle.rule_text.specs.Filled.{IsFilled, IsFilledForm, IsString, class_of}
 use Rattle.rule_text.specs.Reaches.{MOST_REACH, reaches}
 use Rattle.rule_text.specs.Reading.{is_connected, is_more_connected, first_loose, first_loose_more, lesser, loose_of}
@@ -169,6 +169,7 @@ defined_more r name f fresh used plain filled near h =
       near = subst (λ (l : List ℕ). All (λ m. m ≤ MOST_REACH) l) (sym (reaches_more r.names n)) (All-push (λ m. m ≤ MOST_REACH) (reaches r.names) (reach_of r f) h.near (near_most (reach_of r f) near));
       keys = h.keys;
       outputs = λ k o e. layer_kept r.names n o.layer (h.outputs k o e);
+      written = h.written;
       connects = λ k c e. joined_kept r.names n c.0 c.1 (h.connects k c e);
       globals = λ k g e. layer_kept r.names n g.0 (h.globals k g e);
       classes = h.classes;
@@ -186,8 +187,8 @@ defined_more r name f fresh used plain filled near h =
     }
 
 drawn_more : (r : Rules) (name : List ℕ) (key : LayerKey) → list_any (is_same_key key) (map (λ o. o.key) r.outputs) ≡ false → AllLayers r (name ∷ [])
-    → IsFormed r → IsFormed (drawn r name key)
-drawn_more r name key fresh ls h =
+    → IsStreamKey key → IsFormed r → IsFormed (drawn r name key)
+drawn_more r name key fresh ls stream h =
     let o : Output = record { layer = place_of name r; key = key } in
     record {
       names = h.names;
@@ -195,6 +196,7 @@ drawn_more r name key fresh ls h =
       near = h.near;
       keys = map_apart (is_same_key key) (λ p. p.key) r.outputs o (same_key key) fresh h.keys;
       outputs = each_more (λ k p. IsLayer r.names p.layer) r.outputs o h.outputs ls.0;
+      written = each_more (λ k p. IsStreamKey p.key) r.outputs o h.written stream;
       connects = h.connects;
       globals = h.globals;
       classes = h.classes;
@@ -218,6 +220,7 @@ connect_more r a b ls h = record {
   near = h.near;
   keys = h.keys;
   outputs = h.outputs;
+  written = h.written;
   connects = each_more (λ k c. AreJoined r.names c.0 c.1) r.connects (place_of a r, place_of b r) h.connects ls;
   globals = h.globals;
   classes = h.classes;
@@ -241,6 +244,7 @@ global_more r a net ls h = record {
   near = h.near;
   keys = h.keys;
   outputs = h.outputs;
+  written = h.written;
   connects = h.connects;
   globals = each_more (λ k g. IsLayer r.names g.0) r.globals (place_of a r, net) h.globals ls.0;
   classes = h.classes;
@@ -286,6 +290,7 @@ extract_more r m fresh filled ls h =
       near = h.near;
       keys = h.keys;
       outputs = h.outputs;
+      written = h.written;
       connects = h.connects;
       globals = h.globals;
       classes = map_apart (bytes_eq (folded_bytes m.class)) (λ d. folded_bytes d.class) r.devices (mos_rule r m) (same_bytes (folded_bytes m.class)) both.0 h.classes;
@@ -325,6 +330,7 @@ further_more r m fresh filled ls h =
       near = h.near;
       keys = h.keys;
       outputs = h.outputs;
+      written = h.written;
       connects = h.connects;
       globals = h.globals;
       classes = h.classes;
@@ -350,6 +356,7 @@ same_more r a b fresh h =
       near = h.near;
       keys = h.keys;
       outputs = h.outputs;
+      written = h.written;
       connects = h.connects;
       globals = h.globals;
       classes = h.classes;
@@ -373,6 +380,7 @@ flat_layout_more r a fresh h = record {
   near = h.near;
   keys = h.keys;
   outputs = h.outputs;
+  written = h.written;
   connects = h.connects;
   globals = h.globals;
   classes = h.classes;
@@ -396,6 +404,7 @@ flat_schematic_more r b fresh h = record {
   near = h.near;
   keys = h.keys;
   outputs = h.outputs;
+  written = h.written;
   connects = h.connects;
   globals = h.globals;
   classes = h.classes;
@@ -419,6 +428,7 @@ unmatched_more r h = record {
   near = h.near;
   keys = h.keys;
   outputs = h.outputs;
+  written = h.written;
   connects = h.connects;
   globals = h.globals;
   classes = h.classes;
@@ -442,6 +452,7 @@ pins_more r h = record {
   near = h.near;
   keys = h.keys;
   outputs = h.outputs;
+  written = h.written;
   connects = h.connects;
   globals = h.globals;
   classes = h.classes;
@@ -465,6 +476,7 @@ combine_more r h = record {
   near = h.near;
   keys = h.keys;
   outputs = h.outputs;
+  written = h.written;
   connects = h.connects;
   globals = h.globals;
   classes = h.classes;
@@ -488,6 +500,7 @@ guesses_more r n fits h = record {
   near = h.near;
   keys = h.keys;
   outputs = h.outputs;
+  written = h.written;
   connects = h.connects;
   globals = h.globals;
   classes = h.classes;
@@ -511,7 +524,7 @@ passes r line s e = tests (list_all (λ w. is_defined w r) (uses_of s)) (is_far 
 by_tests : (r : Rules) (s : Statement) → list_all (λ w. is_defined w r) (uses_of s) ≡ true → is_far r s ≡ false → is_twice r s ≡ false → is_misplaced r s ≡ false
     → IsFilled s → IsFormed r → IsFormed (with_statement r s)
 by_tests r (Define name f) used near fresh plain filled h = defined_more r name f fresh used plain filled.1 near h
-by_tests r (Draw name key) used near fresh plain filled h = drawn_more r name key fresh (all_layers r (name ∷ []) used plain) h
+by_tests r (Draw name key) used near fresh plain filled h = drawn_more r name key fresh (all_layers r (name ∷ []) used plain) filled h
 by_tests r (Connect a b) used near fresh plain filled h =
     let d = and_parts (is_defined a r) (list_all (λ w. is_defined w r) (b ∷ [])) used in
     let e = and_parts (is_defined b r) true d.1 in
@@ -541,6 +554,7 @@ none_formed = record {
   near = All-nil _;
   keys = tt;
   outputs = none_each _;
+  written = none_each _;
   connects = none_each _;
   globals = none_each _;
   classes = tt;

@@ -2,10 +2,11 @@
 use Rattle.std.specs.Prelude.{◌≡◌, ℕ, ◌+◌, ◌<◌, ◌≤◌, unsigned_abs, true, List, [], ◌∷◌, length}
 use Rattle.std.specs.Prelude.{unwrap_or}
 use Rattle.rule_lines.specs.Tokens.{Token}
+use Rattle.geo_base.specs.Layers.{IsStreamKey}
 use Rattle.rule_text.specs.Rows.{Slot, Fresh, Name, Quoted, Exact, Guesses, Size, Form, Sized}
-use Rattle.rule_text.specs.Rows.{Statement, Define, Global, Extract, Further, More, Resistor, Diode, Same}
-use Rattle.rule_text.specs.Rows.{FlattenLayout, FlattenSchematic, MaxGuesses, guesses_of, size_of}
-use Rattle.rule_text.specs.Rows.{is_string, word_at}
+use Rattle.rule_text.specs.Rows.{Statement, Define, Draw, Global, Extract, Further, More, Resistor}
+use Rattle.rule_text.specs.Rows.{Diode, Same, FlattenLayout, FlattenSchematic, MaxGuesses}
+use Rattle.rule_text.specs.Rows.{guesses_of, size_of, is_string, word_at}
 
 abbrev pub IsGuessLimit : ℕ → Type 0
 IsGuessLimit n = (1 ≤ n) × (n ≤ 1000000)
@@ -40,10 +41,11 @@ abbrev pub IsFilledForm : Form → Type 0
 IsFilledForm (Sized a by) = IsSize (unsigned_abs by)
 IsFilledForm _ = Unit {0}
 
--- what becomes a name has a byte, a class is a string, sizes and the limit of guesses lie in their
--- ranges
+-- what becomes a name has a byte, a class is a string; sizes, the limit of guesses and the layer
+-- that is written lie in their ranges
 abbrev pub IsFilled : Statement → Type 0
 IsFilled (Define name form) = (0 < length name) × IsFilledForm form
+IsFilled (Draw name key) = IsStreamKey key
 IsFilled (Global a net) = 0 < length net
 IsFilled (Extract m) = IsString m.class
 IsFilled (Further m) = IsString (class_of m)

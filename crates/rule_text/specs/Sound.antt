@@ -4,6 +4,7 @@ use Rattle.std.specs.Prelude.{◌≡◌, ℕ, ◌<◌, ◌≤◌, unsigned_abs, 
 use Rattle.std.specs.Prelude.{slice_get, Some}
 use Rattle.std.specs.List.{All}
 use Rattle.net_names.specs.Folding.{folded_bytes}
+use Rattle.geo_base.specs.Layers.{IsStreamKey}
 use Rattle.plain_netlist.specs.Lists.{AreApart}
 use Rattle.rule_text.specs.declared.rules.LayerForm.{LayerForm}
 use Rattle.rule_text.specs.declared.rules.LayerForm.TheVariants as form
@@ -61,6 +62,7 @@ pub record IsFormed (r : Rules) : Type 0 where
   pub near : All (λ n. n ≤ MOST_REACH) (reaches r.names)
   pub keys : AreApart (map (λ o. o.key) r.outputs)
   pub outputs : Each (λ k o. IsLayer r.names o.layer) r.outputs
+  pub written : Each (λ k o. IsStreamKey o.key) r.outputs
   pub connects : Each (λ k c. AreJoined r.names c.0 c.1) r.connects
   pub globals : Each (λ k g. IsLayer r.names g.0) r.globals
   pub classes : AreApart (mos_classes r)

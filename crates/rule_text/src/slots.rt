@@ -3,6 +3,7 @@
 ghost use Rattle.std.specs.Prelude.{◌≡◌, true, ◌≤◌, ◌<◌, ◌^◌, is_some, unwrap_or, length, IfSome};
 ghost use Rattle.std.specs.List.{list_all, list_any};
 ghost use Rattle.std.specs.Str.{bytes_eq};
+ghost use Rattle.geo_base.specs.Layers.{IsStreamKey};
 ghost use Rattle.rule_lines.specs.Seen.{seen, seen_all};
 ghost use Rattle.rule_text.specs.Rows.{is_name, is_statement_word, number_of, layer_of, guesses_of};
 ghost use Rattle.rule_text.specs.Rows.{size_of, size_at};
@@ -242,10 +243,11 @@ pub fn size_at(tokens: &[Token], n: usize) -> u32
 }
 
 pub fn key_at(tokens: &[Token], n: usize, m: usize) -> LayerKey
-    ensures { result ≡ key_at n m (seen_all tokens.now) }
+    ensures is { result ≡ key_at n m (seen_all tokens.now) }
+    ensures stream { IsStreamKey result }
 {
     LayerKey {
-        layer: layer_at(tokens, n),
+        layer: u32::from(layer_at(tokens, n)),
         datatype: layer_at(tokens, m),
     }
 }

@@ -70,6 +70,12 @@ same_length : (rects : List Rect) (entries : List Entry) → AreEntries rects en
 same_length rects entries h =
     sym (length-range_with_len 0 (length rects)) ∙ sym (length_permutation _ _ h.once) ∙ length-map entries (λ (e : Entry). e.position)
 
+-- there are as many entries as stops
+pub counts_same : (rects : List Rect) (entries : List Entry) (stops : List Stop) → AreEntries rects entries → ArePlaced rects stops → length entries ≡ length stops
+counts_same rects entries stops h placed =
+    sym (same_length rects entries h) ∙ sym (length-range_with_len 0 (length rects)) ∙ sym (length_permutation _ _ placed)
+    ∙ length-map stops (λ (s : Stop). s.position)
+
 zero_rect : Rect
 zero_rect = record { x1 = pos 0; y1 = pos 0; x2 = pos 0; y2 = pos 0 }
 

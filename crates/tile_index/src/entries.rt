@@ -16,11 +16,11 @@ pub struct Entry {
     pub position: u32,
 }
 
-// A position in the list, with the place of its rectangle on the curve.
+/// A position in the list, with the place of its rectangle on the curve.
 #[derive(Clone, Copy, Debug)]
-struct Stop {
-    place: u64,
-    position: u32,
+pub struct Stop {
+    pub place: u64,
+    pub position: u32,
 }
 
 /// A position as a number of 32 bits. One of 2^32 or more is want of memory. Constant time.
@@ -53,8 +53,17 @@ fn sort_stops(stops: &mut Vec<Stop>)
     stops.sort_unstable_by_key(|stop| stop.place);
 }
 
-// The rectangles at the stops.
-fn entries_at(alloc: Global, rects: &[Rect], stops: &[Stop]) -> Result<Vec<Entry>, AllocError>
+/// A stop for each rectangle of a list, in the order of the curve. O(n log n).
+pub fn stops_along(alloc: Global, rects: &[Rect], hull: &Rect) -> Result<Vec<Stop>, AllocError>
+    ensures { IfOk result (λ v. ArePlaced rects.now v.items) }
+{
+    let mut stops = stops_of(alloc, rects, hull)?;
+    sort_stops(&mut stops);
+    Ok(stops)
+}
+
+/// The rectangles at the stops, in their order. O(n).
+pub fn entries_at(alloc: Global, rects: &[Rect], stops: &[Stop]) -> Result<Vec<Entry>, AllocError>
     requires { ArePlaced rects.now stops.now }
     ensures { IfOk result (λ v. AreEntries rects.now v.items) }
 {
@@ -64,15 +73,5 @@ fn entries_at(alloc: Global, rects: &[Rect], stops: &[Stop]) -> Result<Vec<Entry
         let rect = rects[position as usize];
         entries.push(Entry { rect, position })?;
     }
-    Ok(entries)
-}
-
-/// The entries of a list of rectangles in the order of the curve.
-pub fn entries_of(alloc: Global, rects: &[Rect], hull: &Rect) -> Result<Vec<Entry>, AllocError>
-    ensures { IfOk result (λ v. AreEntries rects.now v.items) }
-{
-    let mut stops = stops_of(alloc, rects, hull)?;
-    sort_stops(&mut stops);
-    let entries = entries_at(alloc, rects, &stops)?;
     Ok(entries)
 }

@@ -2,7 +2,7 @@
 
 ghost use Rattle.std.specs.Prelude.{◌≡◌, IfOk};
 
-use crate::entries::{Entry, entries_of};
+use crate::entries::{Entry, entries_at, stops_along};
 use crate::tree::{Node, hits, tree_of};
 use geo_base::Rect;
 use std::alloc::{AllocError, Global};
@@ -38,8 +38,9 @@ impl TileIndex {
     pub fn build(alloc: Global, rects: &[Rect], hull: Rect) -> Result<TileIndex, AllocError>
         ensures { IfOk result (λ t. t ≡ rects.now) }
     {
-        let entries = entries_of(alloc, rects, &hull)?;
-        let nodes = tree_of(alloc, &entries)?;
+        let stops = stops_along(alloc, rects, &hull)?;
+        let entries = entries_at(alloc, rects, &stops)?;
+        let nodes = tree_of(alloc, &entries, &stops)?;
         Ok(TileIndex { entries, nodes })
     }
 

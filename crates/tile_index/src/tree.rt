@@ -9,7 +9,7 @@ ghost use Rattle.tile_index.specs.Entries.{hits};
 ghost use Rattle.tile_index.specs.Trees.{AreNodes, IsAbove, Grows, HoldsAll, begin_of, IsTree};
 ghost use Rattle.tile_index.specs.Trees.{IsPart, part, HoldsRange};
 
-use crate::entries::Entry;
+use crate::entries::{Entry, Stop};
 use geo_base::Rect;
 use std::alloc::{AllocError, Global};
 
@@ -64,15 +64,36 @@ fn push_node(
     Ok(())
 }
 
+// Where stops in the order of the curve are parted: before the first whose place shares no more of
+// its highest bits with the first place than the last place does, so that each part lies in a
+// rectangle of its own; in the middle, where all have one place.
+fn seam(stops: &[Stop]) -> usize
+    requires { 1 < length stops.now }
+    ensures some { 0 < result }
+    ensures less { result < length stops.now }
+{
+    let count = stops.len();
+    let first = stops[0].place;
+    let shared = (first ^ stops[count - 1].place).leading_zeros();
+    let early = stops.partition_point(|stop| shared < (first ^ stop.place).leading_zeros());
+    if 0 < early && early < count {
+        early
+    } else {
+        count / 2
+    }
+}
+
 // Adds the nodes of the entries from one number up to another, and gives what holds them.
 fn grow(
     nodes: &mut Vec<Node>,
     entries: &[Entry],
+    stops: &[Stop],
     from: usize,
     to: usize,
 ) -> Result<Rect, AllocError>
     requires some { from < to }
     requires inside { to ≤ length entries.now }
+    requires stops { to ≤ length stops.now }
     requires nodes { AreNodes entries.now nodes.old.items }
     requires next { begin_of entries.now nodes.old.items (length nodes.old.items) ≡ to }
     ensures grows { OnOk result (Grows entries.now from nodes.old.items nodes.new.items) }
@@ -84,23 +105,24 @@ fn grow(
         push_node(nodes, entries, hull, from, to, skip)?;
         return Ok(hull);
     }
-    let middle = from + (to - from) / 2;
-    let late = grow(nodes, entries, middle, to)?;
-    let early = grow(nodes, entries, from, middle)?;
+    let middle = from + seam(&stops[from..to]);
+    let late = grow(nodes, entries, stops, middle, to)?;
+    let early = grow(nodes, entries, stops, from, middle)?;
     let hull = early.bounding_box(&late);
     push_node(nodes, entries, hull, from, to, skip)?;
     Ok(hull)
 }
 
-/// The nodes of all entries.
-pub fn tree_of(alloc: Global, entries: &[Entry]) -> Result<Vec<Node>, AllocError>
+/// The nodes of all entries, which stand in the order of the stops.
+pub fn tree_of(alloc: Global, entries: &[Entry], stops: &[Stop]) -> Result<Vec<Node>, AllocError>
+    requires { length entries.now ≡ length stops.now }
     ensures { IfOk result (λ v. IsTree entries.now v.items) }
 {
     let mut nodes = Vec::new(alloc);
     if entries.is_empty() {
         return Ok(nodes);
     }
-    grow(&mut nodes, entries, 0, entries.len())?;
+    grow(&mut nodes, entries, stops, 0, entries.len())?;
     Ok(nodes)
 }
 
