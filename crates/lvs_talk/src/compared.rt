@@ -67,7 +67,12 @@ fn partner_sentence<'a>(texts: &Texts<'a>) -> Sentence<'a> {
     }
     let top = word_at(line, 1);
     let pattern = "  @ has no partner in the schematic: add the rule same_circuits(\"@\", \"@\")";
-    says(pattern, top, top, last_circuit(texts.schematic))
+    says(
+        pattern,
+        top,
+        top,
+        last_circuit(texts.schematic).unwrap_or("NAME"),
+    )
 }
 
 // A layout without devices.
@@ -83,18 +88,14 @@ fn empty_sentence(netlist: &str) -> Sentence<'static> {
     )
 }
 
-// The line of the first pair of a report that doesn't match, and its line of evidence.
-fn difference_in(report: &str) -> (&str, &str) {
-    let mut pair = "";
-    for line in report.lines() {
-        if !pair.is_empty() {
-            return (pair, line);
-        }
-        if line.starts_with("pair ") && !line.ends_with(" match") {
-            pair = line;
+// The first pair of a report that doesn't match: its words, and its line of evidence below.
+fn difference_in(report: &str) -> &str {
+    for pair in report.split("\npair ") {
+        if word_at(pair, 2) == "differs" || word_at(pair, 2) == "undecided" {
+            return pair;
         }
     }
-    (pair, "")
+    ""
 }
 
 // The first pair that doesn't match.
@@ -102,12 +103,8 @@ fn pair_sentence(pair: &str) -> Sentence<'_> {
     if pair.is_empty() {
         return NONE;
     }
-    says(
-        "  first, @ of the layout and @ of the schematic differ:",
-        word_at(pair, 1),
-        word_at(pair, 2),
-        "",
-    )
+    let pattern = "  first, @ of the layout and @ of the schematic differ:";
+    says(pattern, word_at(pair, 0), word_at(pair, 1), "")
 }
 
 // What a line of evidence numbers, as `layout net 5`; and how many look like it in the layout and
@@ -137,22 +134,12 @@ fn evidence_sentence(line: &str) -> Sentence<'_> {
     }
 }
 
-fn pair_count(report: &str) -> usize {
-    let mut count: usize = 0;
-    for line in report.lines() {
-        if line.starts_with("pair ") {
-            count = count.saturating_add(1);
-        }
-    }
-    count
-}
-
 // Whether the numbers of the report are those of the netlist's cards and nets: no alike devices
 // were made one, and each circuit is compared as it stands.
 fn is_as_written(texts: &Texts<'_>) -> bool {
     match str::from_utf8(texts.input) {
         Ok(rules) if !rules.contains("combine_devices") => {
-            part_count(texts.netlist) == pair_count(texts.report).saturating_add(1)
+            part_count(texts.netlist) == texts.report.split("\npair ").count()
         }
         _ => false,
     }
@@ -180,8 +167,9 @@ const PAGE: &str = "  lvs view says it by name and place: --page P, and --databa
 
 // What differs, by the report.
 fn tell_difference(alloc: Global, out: &mut String, texts: &Texts<'_>) -> Result<(), AllocError> {
-    let (pair, evidence) = difference_in(texts.report);
-    let name = name_sentence(alloc, texts, word_at(pair, 1), evidence);
+    let pair = difference_in(texts.report);
+    let evidence = pair.lines().nth(1).unwrap_or("");
+    let name = name_sentence(alloc, texts, word_at(pair, 0), evidence);
     say(out, &empty_sentence(texts.netlist))?;
     say(out, &gate_sentence(texts.report))?;
     say(out, &partner_sentence(texts))?;
@@ -191,8 +179,19 @@ fn tell_difference(alloc: Global, out: &mut String, texts: &Texts<'_>) -> Result
     say(out, &says(PAGE, "", "", ""))
 }
 
-// The first lines of a page.
+// The first lines of a page, where one was asked for.
 fn tell_page(out: &mut String, page: &str) -> Result<(), AllocError> {
+    if page.is_empty() {
+        return say(
+            out,
+            &says(
+                "  --page P writes what differs by name and place",
+                "",
+                "",
+                "",
+            ),
+        );
+    }
     for line in page.lines().skip(1).take(4) {
         say(out, &says("  @", line, "", ""))?;
     }

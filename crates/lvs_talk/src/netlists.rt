@@ -19,15 +19,12 @@ pub fn has_no_device(netlist: &str) -> bool {
     true
 }
 
-/// The name of the last circuit of a netlist; nothing where it has none.
-pub fn last_circuit(netlist: &str) -> &str {
-    let mut name = "";
-    for line in netlist.lines() {
-        if word_at(line, 0).eq_ignore_ascii_case(".SUBCKT") {
-            name = word_at(line, 1);
-        }
-    }
-    name
+/// The name of the last circuit of a netlist, as its card spells it.
+pub fn last_circuit(netlist: &str) -> Option<&str> {
+    let (_, circuit) = netlist
+        .rsplit_once(".SUBCKT ")
+        .or(netlist.rsplit_once(".subckt "))?;
+    Some(word_at(circuit, 0))
 }
 
 fn is_scale(line: &str) -> bool {
