@@ -11,6 +11,10 @@ use Rattle.cell_graph.specs.declared.cells.Place.{Place}
 use Rattle.cell_graph.specs.Linked.{motion_at}
 use Rattle.cell_context.specs.declared.arrays.Reach.{Reach}
 
+-- the reference is of one placement
+abbrev pub IsAlone : Place → Type 0
+IsAlone p = (p.rows ≡ 1) × (p.columns ≡ 1)
+
 -- the shifts of an array's elements are near
 pub record IsNearArray (p : Place) : Type 0 where
   pub dx : IsWithin (2 ^ 39) p.motion.dx

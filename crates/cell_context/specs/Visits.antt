@@ -1,5 +1,6 @@
 -- Visits: elements of arrays that reach into a window.
-use Rattle.std.specs.Prelude.{◌≡◌, ℕ, ◌<◌, true, ◌&&◌, List}
+use Rattle.std.specs.Prelude.{◌≡◌, ℕ, ◌<◌, true, ◌&&◌, List, ◌++◌}
+use Rattle.std.specs.List.{All}
 use Rattle.geo_base.specs.Rects.{has}
 use Rattle.geo_base.specs.Motions.{moved_square}
 use Rattle.geo_base.specs.declared.shapes.Rect.{Rect}
@@ -33,6 +34,18 @@ pub record IsVisited (p : Place) (row column : ℕ) (q : Square) (v : Visit) : T
 
 abbrev pub IsFound : Place → ℕ → ℕ → Square → List Visit → Type 0
 IsFound p row column q visits = Some_of (IsVisited p row column q) visits
+
+abbrev pub IsElementOf : Place → ℕ → ℕ → Type 0
+IsElementOf p row column = (row < p.rows) × (column < p.columns)
+
+-- visits of elements were added, among them those of all that are meant
+pub record AddsVisits (p : Place) (hull window : Rect) (meant : ℕ → ℕ → Type 0)
+    (old new : List Visit) : Type 0 where
+  pub more : List Visit
+  pub behind : new ≡ old ++ more
+  pub each : All (IsElementVisit p hull window) more
+  pub found : (row column : ℕ) (q : Square) → meant row column
+      → IsMet p hull window row column q → IsFound p row column q more
 
 -- what was found still is
 abbrev pub HasAllOf : List Visit → List Visit → Type 0

@@ -1,15 +1,16 @@
 //! Which placements of a cell reach into a window.
 
 ghost use Rattle.std.specs.List.{All};
-ghost use Rattle.cell_context.specs.Visits.{IsElementVisit, IsMet, IsFound};
-ghost use Rattle.std.specs.Prelude.{OnOk, IfOk, ◌≡◌, ◌<◌, ◌≤◌, ◌-◌, ◌^◌, ◌&&◌, ℕ, ℤ, pos, ◌+ℤ◌};
+ghost use Rattle.cell_context.specs.Visits.{AddsVisits, IsElementOf, IsElementVisit, IsMet, IsFound};
+ghost use Rattle.std.specs.Prelude.{OnOk, IfOk, true, ◌↔◌};
+ghost use Rattle.std.specs.Prelude.{◌≡◌, ◌<◌, ◌≤◌, ◌-◌, ◌^◌, ◌&&◌, ℕ, ℤ, pos, ◌+ℤ◌};
 ghost use Rattle.std.specs.Prelude.{◌-ℤ◌, ◌*ℤ◌, ◌≤ℤ◌, ◌<ℤ◌};
 ghost use Rattle.geo_base.specs.Near.{IsWithin, IsNearMotion};
 ghost use Rattle.geo_base.specs.Rects.{IsRect, has, moved_rect, IsInside};
 ghost use Rattle.geo_base.specs.Motions.{moved_square};
 ghost use Rattle.geo_base.specs.declared.shapes.Square.{Square};
 ghost use Rattle.cell_graph.specs.Linked.{IsFrame, IsRectWithin, motion_at};
-ghost use Rattle.cell_context.specs.Arrays.{IsNearArray, IsMeet, IsReach, IsNearReach, turn_of};
+ghost use Rattle.cell_context.specs.Arrays.{IsAlone, IsNearArray, IsMeet, IsReach, IsNearReach, turn_of};
 ghost use Rattle.cell_context.specs.Arrays.{shift_x, shift_y, MayMeet};
 ghost use Rattle.cell_context.specs.Steps.{Includes};
 
@@ -17,6 +18,13 @@ use crate::steps::{Steps, steps_between};
 use cell_graph::Place;
 use geo_base::{Motion, Rect};
 use std::alloc::{AllocError, Global};
+
+/// Whether a reference is of one placement.
+pub fn is_alone(place: &Place) -> bool
+    ensures { (result ≡ true) ↔ IsAlone place.now }
+{
+    place.rows == 1 && place.columns == 1
+}
 
 /// The common part of two rectangles.
 pub fn meet(a: &Rect, b: &Rect) -> Option<Rect>
@@ -308,12 +316,8 @@ fn push_visit(
     requires column { column < place.now.columns }
     requires hull { IsFrame hull.now }
     requires window { IsRectWithin (2 ^ 39) window.now }
-    requires each { All (IsElementVisit place.now hull.now window.now) out.old.items }
-    ensures each { OnOk result (All (IsElementVisit place.now hull.now window.now) out.new.items) }
-    ensures found { OnOk result ((q : Square) → IsMet place.now hull.now window.now row column q
-        → IsFound place.now row column q out.new.items) }
-    ensures kept { OnOk result ((r c : ℕ) (q : Square) → IsFound place.now r c q out.old.items
-        → IsFound place.now r c q out.new.items) }
+    ensures { OnOk result (AddsVisits place.now hull.now window.now
+        (λ i j. (i ≡ row) × (j ≡ column)) out.old.items out.new.items) }
 {
     let motion = motion_at(place, row, column);
     if let Some(part) = meet(&motion.rect(*hull), window) {
@@ -327,8 +331,8 @@ fn push_visit(
     Ok(())
 }
 
-/// The elements of an array whose images of a hull meet a window.
-pub fn place_visits(
+// The visits of an array, found by its rows and columns.
+fn array_visits(
     alloc: Global,
     place: &Place,
     hull: &Rect,
@@ -352,5 +356,51 @@ pub fn place_visits(
             push_visit(&mut out, place, row, column, hull, window)?;
         }
     }
+    Ok(out)
+}
+
+/// Adds the visits of the elements of an array whose images of a hull meet a window. For a
+/// reference of one placement it is one look, and takes no list.
+pub fn push_elements(
+    alloc: Global,
+    out: &mut Vec<Visit>,
+    place: &Place,
+    hull: &Rect,
+    window: &Rect,
+) -> Result<(), AllocError>
+    requires near { IsNearArray place.now }
+    requires some { 0 < place.now.columns }
+    requires hull { IsFrame hull.now }
+    requires window { IsRectWithin (2 ^ 39) window.now }
+    ensures { OnOk result (AddsVisits place.now hull.now window.now (IsElementOf place.now)
+        out.old.items out.new.items) }
+{
+    if is_alone(place) {
+        push_visit(out, place, 0, 0, hull, window)?;
+        return Ok(());
+    }
+    let more = array_visits(alloc, place, hull, window)?;
+    out.extend_from_slice(&more)?;
+    Ok(())
+}
+
+/// The elements of an array whose images of a hull meet a window.
+pub fn place_visits(
+    alloc: Global,
+    place: &Place,
+    hull: &Rect,
+    window: &Rect,
+) -> Result<Vec<Visit>, AllocError>
+    requires near { IsNearArray place.now }
+    requires some { 0 < place.now.columns }
+    requires hull { IsFrame hull.now }
+    requires window { IsRectWithin (2 ^ 39) window.now }
+    ensures each { IfOk result (λ v. All (IsElementVisit place.now hull.now window.now) v.items) }
+    ensures found { IfOk result (λ v. (row column : ℕ) (q : Square) → row < place.now.rows
+        → column < place.now.columns → IsMet place.now hull.now window.now row column q
+        → IsFound place.now row column q v.items) }
+{
+    let mut out = Vec::new(alloc);
+    push_elements(alloc, &mut out, place, hull, window)?;
     Ok(out)
 }

@@ -17,7 +17,7 @@ ghost use Rattle.cell_context.specs.Visits.{HasAllOf};
 ghost use Rattle.tile_index.specs.Windows.{ArePositions};
 ghost use Rattle.cell_graph.specs.declared.cells.Place.{Place};
 
-use crate::arrays::{Visit, meet, place_visits};
+use crate::arrays::{Visit, meet, push_elements};
 use crate::growth::grown;
 use cell_graph::{Design, Place};
 use geo_base::{LayerKey, Motion, Rect};
@@ -113,8 +113,7 @@ fn push_visits(
     design.sound();
     if let Some(hull) = design.hull(place.cell) {
         let wide = grown(&hull, search.by);
-        let more = place_visits(alloc, place, &wide, search.window)?;
-        out.extend_from_slice(&more)?;
+        push_elements(alloc, out, place, &wide, search.window)?;
     }
     Ok(())
 }

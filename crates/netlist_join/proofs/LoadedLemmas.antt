@@ -1,14 +1,14 @@
 -- What is told of loaded files.
-use Rattle.std.proofs.Common.{◌≡◌, ◌<◌, ◌≤◌, ℕ, Result, Err, suc, Bool, true, false, List, [], ◌∷◌, ◌++◌, length, refl, sym, ◌∙◌, ap, subst, append_assoc, arith}
+use Rattle.std.proofs.Common.{◌≡◌, ◌<◌, ◌≤◌, ◌+◌, ℕ, Result, Err, suc, Bool, true, false, List, [], ◌∷◌, ◌++◌, length, refl, sym, ◌∙◌, ap, subst, append_assoc, arith}
 use Rattle.std.proofs.lemmas.Bool.{or_from, or_parts}
 use Rattle.std.specs.Prelude.{string_bytes, if◌then◌else◌, ◌||◌}
 use Rattle.std.specs.List.{list_any}
 use Rattle.std.specs.Str.{bytes_eq}
 use Rattle.std.proofs.lemmas.List.{append-nil, length-append}
 use Rattle.std.proofs.lemmas.List.Elements.{All-append, All-cons, All-nil, All-weaker, All-push}
-use Rattle.lvs_outside.specs.Loops.{IsFile, IsLonger, IsRest, TellsAll, limit}
-use Rattle.lvs_outside.specs.Store.{Store, Told, Untold, NoFile, Holds, Open, Reading, IsAbsent, IsThere, SameFiles, SameRest, counted}
-use Rattle.netlist_join.specs.Failing.{IsAsked, NotRead, OnlyReads, SaysFailed, ShowsFaults}
+use Rattle.lvs_outside.specs.Loops.{IsFile, IsLonger, IsRest, ReadTooMuch, TellsAll, TellsLonger, limit}
+use Rattle.lvs_outside.specs.Store.{Store, Told, Untold, NoFile, Holds, Open, Reading, Forward, FoundNone, IsAbsent, IsThere, SameFiles, SameRest, counted}
+use Rattle.netlist_join.specs.Failing.{FoundLong, IsAsked, NotRead, OnlyReads, SaysFailed, ShowsFaults}
 use Rattle.netlist_join.specs.Loaded.{AreFiles, IsMore, paths_of, has_path, has_twins, with_path, with_paths, StartsWith}
 use Rattle.netlist_join.specs.declared.files.File.{File}
 use Rattle.netlist_join.specs.declared.files.Failed.{Failed}
@@ -120,22 +120,52 @@ faults_from A B a b c (TooLong path) quiet h = h ∙ quiet
 faults_from A B a b c TooMany quiet h = h ∙ quiet
 faults_from A B a b c NoMemory quiet h = h ∙ quiet
 
+-- a path without a file, from an earlier store on
+pub absent_from : (a b c : Store) (path : List ℕ) → SameFiles a b → b.absent ≡ a.absent → FoundNone b c path → FoundNone a c path
+absent_from a b c path same stood h = record {
+  absent_there = subst (λ (x : Told). IsAbsent x) (same path) h.absent_there;
+  opened = h.opened;
+  absent = h.absent ∙ ap (λ (n : ℕ). n + 1) stood;
+  last_absent = h.last_absent;
+}
+
+pub long_from : (a b c : Store) (path : List ℕ) → SameFiles a b → b.absent ≡ a.absent → FoundLong b c path → FoundLong a c path
+long_from a b c path same stood h = record {
+  told = subst (λ (x : Told). IsLonger limit x 0) (same path) h.told;
+  taken = h.taken;
+  long = h.long;
+  opened = h.opened;
+  absent = h.absent ∙ stood;
+}
+
 -- why, from an earlier store on, of paths among others
-pub not_read_from : (Is Was : List ℕ → Type 0) (a b c : Store) (e : Failed) → ((p : List ℕ) → Was p → Is p) → SameFiles a b → NotRead Was b c e → NotRead Is a c e
-not_read_from Is Was a b c Outside wider same h = tt
-not_read_from Is Was a b c (Absent path) wider same h = (wider (string_bytes path) h.0, subst (λ (x : Told). IsAbsent x) (same (string_bytes path)) h.1, h.2)
-not_read_from Is Was a b c (TooLong path) wider same h = (wider (string_bytes path) h.0, subst (λ (x : Told). IsLonger limit x 0) (same (string_bytes path)) h.1)
-not_read_from Is Was a b c TooMany wider same h = absurd h
-not_read_from Is Was a b c NoMemory wider same h = tt
+pub not_read_from : (Is Was : List ℕ → Type 0) (a b c : Store) (e : Failed) → ((p : List ℕ) → Was p → Is p) → SameFiles a b → b.absent ≡ a.absent → NotRead Was b c e → NotRead Is a c e
+not_read_from Is Was a b c Outside wider same stood h = tt
+not_read_from Is Was a b c (Absent path) wider same stood h = (wider (string_bytes path) h.0, absent_from a b c (string_bytes path) same stood h.1)
+not_read_from Is Was a b c (TooLong path) wider same stood h = (wider (string_bytes path) h.0, long_from a b c (string_bytes path) same stood h.1)
+not_read_from Is Was a b c TooMany wider same stood h = absurd h
+not_read_from Is Was a b c NoMemory wider same stood h = tt
 
 -- why the files of inputs weren't loaded, by why one of these paths wasn't
-pub not_loaded : (inputs : List (List ℕ)) (Was : List ℕ → Type 0) (a b c : Store) (e : Failed) → ((p : List ℕ) → Was p → IsAsked a.file inputs p) → SameFiles a b → NotRead Was b c e
-    → SaysFailed inputs a c e
-not_loaded inputs Was a b c Outside wider same h = tt
-not_loaded inputs Was a b c (Absent path) wider same h = not_read_from (λ p. IsAsked a.file inputs p) Was a b c (Absent path) wider same h
-not_loaded inputs Was a b c (TooLong path) wider same h = not_read_from (λ p. IsAsked a.file inputs p) Was a b c (TooLong path) wider same h
-not_loaded inputs Was a b c TooMany wider same h = absurd h
-not_loaded inputs Was a b c NoMemory wider same h = tt
+pub not_loaded : (inputs : List (List ℕ)) (Was : List ℕ → Type 0) (a b c : Store) (e : Failed) → ((p : List ℕ) → Was p → IsAsked a.file inputs p) → SameFiles a b → b.absent ≡ a.absent
+    → NotRead Was b c e → SaysFailed inputs a c e
+not_loaded inputs Was a b c Outside wider same stood h = tt
+not_loaded inputs Was a b c (Absent path) wider same stood h = not_read_from (λ p. IsAsked a.file inputs p) Was a b c (Absent path) wider same stood h
+not_loaded inputs Was a b c (TooLong path) wider same stood h = not_read_from (λ p. IsAsked a.file inputs p) Was a b c (TooLong path) wider same stood h
+not_loaded inputs Was a b c TooMany wider same stood h = absurd h
+not_loaded inputs Was a b c NoMemory wider same stood h = tt
+
+-- a file that was just opened was read too far
+pub long_read : (a c : Store) (path bytes : List ℕ) → a.opened ≡ Reading path 0 → ReadTooMuch a c bytes → SameRest a c → FoundLong a c path
+long_read a c path bytes e h rest =
+    let told : TellsLonger (record a { opened = Reading path 0 }) limit = subst (λ (o : Open). TellsLonger (record a { opened = o }) limit) e h.told in
+    record {
+      told = told;
+      taken = 0 + length bytes;
+      long = omega (arith, h.long);
+      opened = h.opened ∙ ap (λ (o : Open). Forward o (length bytes)) e;
+      absent = rest.absent;
+    }
 
 -- files behind some
 pub more_none : (Is : List ℕ → Type 0) (files : List File) → IsMore Is files files

@@ -167,16 +167,16 @@ pub rest_put : (old new ps qs goal : List (List ℕ)) (p : List ℕ) → ps ≡ 
 rest_put old new ps qs goal p e is h = ap (λ (xs : List (List ℕ)). with_paths xs qs) is ∙ sym (ap (λ (xs : List (List ℕ)). with_paths old xs) e) ∙ h
 
 -- a path that one of the files names is asked for, and why its file wasn't read
-pub not_named : (A : Type 0) (r : Result A Failed) (inputs ps : List (List ℕ)) (files : List File) (k : ℕ) (d : File) (a b c : Store) → OnlyReads a b → AreFiles b.file files → has_twins (paths_of files) ≡ false
+pub not_named : (A : Type 0) (r : Result A Failed) (inputs ps : List (List ℕ)) (files : List File) (k : ℕ) (d : File) (a b c : Store) → OnlyReads a b → b.absent ≡ a.absent → AreFiles b.file files → has_twins (paths_of files) ≡ false
     → are_reached inputs [] files ≡ true → k < length files → ps ≡ named (get_or files k d) → IfErr r (NotRead (λ p. has_path ps p ≡ true) b c) → IfErr r (SaysFailed inputs a c)
-not_named A (Ok x) inputs ps files k d a b c reads told apart reached lt e h = tt
-not_named A (Err f) inputs ps files k d a b c reads told apart reached lt e h =
+not_named A (Ok x) inputs ps files k d a b c reads stood told apart reached lt e h = tt
+not_named A (Err f) inputs ps files k d a b c reads stood told apart reached lt e h =
     not_loaded inputs (λ p. has_path ps p ≡ true) a b c f
     (λ p there. record {
       files = files;
       some = record { told = go_back a b files reads.none.files told; reached = reached; apart = apart };
       asked = asked_by inputs files k d p lt (subst (λ (qs : List (List ℕ)). has_path qs p ≡ true) e there);
-    }) reads.none.files h
+    }) reads.none.files stood h
 
 pub not_input : (A : Type 0) (r : Result A Failed) (inputs : List (List ℕ)) (a c : Store) → IfErr r (NotRead (λ p. has_path inputs p ≡ true) a c) → IfErr r (SaysFailed inputs a c)
 not_input A (Ok x) inputs a c h = tt
@@ -186,4 +186,4 @@ not_input A (Err f) inputs a c h =
       files = [];
       some = record { told = All-nil (λ (f : File). IsFile f.bytes.items (a.file (string_bytes f.path))); reached = refl; apart = refl };
       asked = asked_input inputs [] p there;
-    }) (λ p. refl) h
+    }) (λ p. refl) refl h

@@ -2,7 +2,7 @@
 use Rattle.std.specs.Prelude.{◌≡◌, ◌<◌, ℕ, true, false, List, [], length, string_bytes}
 use Rattle.std.specs.Prelude.{Result, Err}
 use Rattle.lvs_outside.specs.Loops.{IsLonger, NoneWritten, limit}
-use Rattle.lvs_outside.specs.Store.{Store, Told, IsAbsent, counted}
+use Rattle.lvs_outside.specs.Store.{Store, Told, FoundNone, Reading, counted}
 use Rattle.netlist_join.specs.Loaded.{AreFiles, has_path, has_twins, paths_of}
 use Rattle.netlist_join.specs.Named.{are_reached, asked}
 use Rattle.netlist_join.specs.declared.files.File.{File}
@@ -42,18 +42,25 @@ pub record AreTooMany (file : List ℕ → Told) (inputs : List (List ℕ)) : Ty
   pub some : AreSome file inputs files
   pub many : most < length files
 
--- why the file of one of these paths wasn't read: the store answered that there is none, or it is
--- told to be longer than is taken
+-- the path's file is told to be longer than is taken, and stands open with more than that read; no
+-- path was answered to have no file
+pub record FoundLong (old new : Store) (path : List ℕ) : Type 0 where
+  pub told : IsLonger limit (old.file path) 0
+  pub taken : ℕ
+  pub long : limit < taken
+  pub opened : new.opened ≡ Reading path taken
+  pub absent : new.absent ≡ old.absent
+
+-- why the file of one of these paths wasn't read: the store answered that there is none, which it
+-- did of no other path, or it is longer than is taken
 abbrev pub NotRead : (List ℕ → Type 0) → Store → Store → Failed → Type 0
 NotRead Is old new Outside = Unit {0}
-NotRead Is old new (Absent path) = Is (string_bytes path) × IsAbsent (old.file (string_bytes path))
-    × (new.last_absent ≡ string_bytes path)
-NotRead Is old new (TooLong path) =
-    Is (string_bytes path) × IsLonger limit (old.file (string_bytes path)) 0
+NotRead Is old new (Absent path) = Is (string_bytes path) × FoundNone old new (string_bytes path)
+NotRead Is old new (TooLong path) = Is (string_bytes path) × FoundLong old new (string_bytes path)
 NotRead Is old new TooMany = ⊥
 NotRead Is old new NoMemory = Unit {0}
 
 -- why files weren't loaded: a file that is asked for wasn't read, or they are too many
 abbrev pub SaysFailed : List (List ℕ) → Store → Store → Failed → Type 0
-SaysFailed inputs old new TooMany = AreTooMany old.file inputs
+SaysFailed inputs old new TooMany = AreTooMany old.file inputs × (new.absent ≡ old.absent)
 SaysFailed inputs old new e = NotRead (λ p. IsAsked old.file inputs p) old new e

@@ -98,13 +98,14 @@ pub fn find(files: &[File], path: &[u8]) -> Option<usize>
 }
 
 // The rest of the open file.
-#[tactic(auto, using(crate::proofs::LoadedLemmas::whole, crate::proofs::LoadedLemmas::reads_rest))]
+#[tactic(auto, using(crate::proofs::LoadedLemmas::whole, crate::proofs::LoadedLemmas::long_read, crate::proofs::LoadedLemmas::reads_rest))]
 fn read_open<D: Depot>(alloc: Global, depot: &mut D, path: &str) -> Result<Vec<u8>, Failed>
     requires room { HasRoom (D.state depot.old) }
     requires open { (D.state depot.old).opened ≡ Reading path.now 0 }
     requires there { IsThere ((D.state depot.old).file path.now) }
     ensures room { OnOk result (HasRoom (D.state depot.new)) }
     ensures reads { OnlyReads (D.state depot.old) (D.state depot.new) }
+    ensures absent { OnOk result ((D.state depot.new).absent ≡ (D.state depot.old).absent) }
     ensures faults { ShowsFaults (D.state depot.old) (D.state depot.new) result }
     ensures told { IfOk result (λ b. IsFile b.items ((D.state depot.old).file path.now)) }
     ensures failed { IfErr result (NotRead (λ p. p ≡ path.now) (D.state depot.old)
@@ -127,6 +128,7 @@ fn read_file<D: Depot>(alloc: Global, depot: &mut D, path: &str) -> Result<Vec<u
     requires { HasRoom (D.state depot.old) }
     ensures room { OnOk result (HasRoom (D.state depot.new)) }
     ensures reads { OnlyReads (D.state depot.old) (D.state depot.new) }
+    ensures absent { OnOk result ((D.state depot.new).absent ≡ (D.state depot.old).absent) }
     ensures faults { ShowsFaults (D.state depot.old) (D.state depot.new) result }
     ensures told { IfOk result (λ b. IsFile b.items ((D.state depot.old).file path.now)) }
     ensures failed { IfErr result (NotRead (λ p. p ≡ path.now) (D.state depot.old)
@@ -173,6 +175,7 @@ fn add<D: Depot>(
     requires told { AreFiles (D.state depot.old).file files.old.items }
     ensures room { OnOk result (HasRoom (D.state depot.new)) }
     ensures reads { OnlyReads (D.state depot.old) (D.state depot.new) }
+    ensures absent { OnOk result ((D.state depot.new).absent ≡ (D.state depot.old).absent) }
     ensures faults { ShowsFaults (D.state depot.old) (D.state depot.new) result }
     ensures told { OnOk result (AreFiles (D.state depot.new).file files.new.items) }
     ensures more { OnOk result (IsMore (λ p. p ≡ path.now) files.old.items files.new.items) }
@@ -243,6 +246,7 @@ fn add_all<D: Depot>(
     requires told { AreFiles (D.state depot.old).file files.old.items }
     ensures room { OnOk result (HasRoom (D.state depot.new)) }
     ensures reads { OnlyReads (D.state depot.old) (D.state depot.new) }
+    ensures absent { OnOk result ((D.state depot.new).absent ≡ (D.state depot.old).absent) }
     ensures faults { ShowsFaults (D.state depot.old) (D.state depot.new) result }
     ensures told { OnOk result (AreFiles (D.state depot.new).file files.new.items) }
     ensures more { OnOk result (IsMore (λ p. has_path (map string_bytes paths.now) p ≡ true)
@@ -273,6 +277,7 @@ pub fn load_files<D: Depot>(
     requires { HasRoom (D.state depot.old) }
     ensures room { OnOk result (HasRoom (D.state depot.new)) }
     ensures reads { OnlyReads (D.state depot.old) (D.state depot.new) }
+    ensures absent { OnOk result ((D.state depot.new).absent ≡ (D.state depot.old).absent) }
     ensures faults { ShowsFaults (D.state depot.old) (D.state depot.new) result }
     ensures told { IfOk result (λ f. AreFiles (D.state depot.old).file f.items) }
     ensures inputs { IfOk result (λ f. has_twins (map string_bytes inputs.now) ≡ false

@@ -79,19 +79,19 @@ part_from old mid new path text reads (inr h) = inr (record {
 
 -- something was to be written
 pub made_ends : (a : Asked) (path text lines : List ℕ) (old mid new : Store) (before after : SinkState) (t : Status) → a.out ≡ Some path → is_same a path ≡ false → OnlyReads old mid
-    → (counted mid).faults ≡ (counted old).faults → IsPrepared old.file a text lines → Delivers path text lines mid new before after t → Ends (Some a) old new before after t
-made_ends a path text lines old mid new before after t out apart reads quiet p h = ended h
+    → mid.absent ≡ old.absent → (counted mid).faults ≡ (counted old).faults → IsPrepared old.file a text lines → Delivers path text lines mid new before after t → Ends (Some a) old new before after t
+made_ends a path text lines old mid new before after t out apart reads stood quiet p h = ended h
   where
     ready : IsReady (Some a) old.file path text lines
     ready = record { ask = a; asks = refl; out = out; apart = apart; prepared = p }
 
     ended : Delivers path text lines mid new before after t → Ends (Some a) old new before after t
-    ended (inl (w, same, (inl e))) =
+    ended (inl (w, same, none, (inl e))) =
         subst (λ (x : Status). Ends (Some a) old new before after x) (sym e.0) (record {
-          leaves = record { path = path; text = text; lines = lines; ready = ready; written = wrote_from old mid new path text reads w; sent = e.1 };
+          leaves = record { path = path; text = text; lines = lines; ready = ready; written = wrote_from old mid new path text reads w; absent = none ∙ stood; sent = e.1 };
           faults = record { store = same ∙ quiet; sink = e.2 };
         })
-    ended (inl (w, same, (inr e))) =
+    ended (inl (w, same, none, (inr e))) =
         subst (λ (x : Status). Ends (Some a) old new before after x) (sym e.0) (record { leaves = AtLines path text lines ready (wrote_from old mid new path text reads w) e.1; faults = inr e.2 })
     ended (inr e) =
         subst (λ (x : Status). Ends (Some a) old new before after x) (sym e.0)
@@ -105,11 +105,11 @@ line_ends o line old before after t why (inl e) =
 line_ends o line old before after t why (inr e) = subst (λ (x : Status). Ends o old old before after x) (sym e.0) (record { leaves = AtRefusal line why (nothing_read old) e.1; faults = inr e.2 })
 
 pub words_end : (o : Option Asked) (old : Store) (before after : SinkState) (t : Status) → o ≡ None → Sends (codes "refused words\n") before after Refused t → Ends o old old before after t
-words_end o old before after t none h = line_ends o (codes "refused words\n") old before after t (Words none refl) h
+words_end o old before after t none h = line_ends o (codes "refused words\n") old before after t (Words none refl refl) h
 
 pub same_ends : (a : Asked) (path : List ℕ) (old : Store) (before after : SinkState) (t : Status) → a.out ≡ Some path → is_same a path ≡ true
     → Sends (codes "refused same\n") before after Refused t → Ends (Some a) old old before after t
-same_ends a path old before after t out same h = line_ends (Some a) (codes "refused same\n") old before after t (Same a path refl out same refl) h
+same_ends a path old before after t out same h = line_ends (Some a) (codes "refused same\n") old before after t (Same a path refl out same refl refl) h
 
 -- there was no memory for the words
 pub memory_ends : (o : Option Asked) (old : Store) (before : SinkState) → Ends o old old before before NoMemory
@@ -135,12 +135,14 @@ pub joined_of : (r : Result Output Stop) (files : List File) (joined : Joined) (
 joined_of (Ok o) files joined a e h = record { joined = joined; joins = e; output = h }
 joined_of (Err s) files joined a e h = tt
 
-pub lacks_of : (r : Result Output Stop) (old new : Store) (files : List File) (a : Asked) → AreLoaded old.file a files → IfErr r (NotJoined files a) → IfErr r (Stops old new a)
-lacks_of (Ok o) old new files a l h = tt
-lacks_of (Err s) old new files a l h = Lacks files l h
+pub lacks_of : (r : Result Output Stop) (old new : Store) (files : List File) (a : Asked) → AreLoaded old.file a files → new.absent ≡ old.absent → IfErr r (NotJoined files a)
+    → IfErr r (Stops old new a)
+lacks_of (Ok o) old new files a l stood h = tt
+lacks_of (Err s) old new files a l stood h = Lacks files l stood h
 
-pub lacks_then : (r : Result Output Stop) (old new : Store) (files : List File) (a : Asked) → IfErr r (NotJoined files a) → AreLoaded old.file a files → IfErr r (Stops old new a)
-lacks_then r old new files a h l = lacks_of r old new files a l h
+pub lacks_then : (r : Result Output Stop) (old new : Store) (files : List File) (a : Asked) → IfErr r (NotJoined files a) → new.absent ≡ old.absent → AreLoaded old.file a files
+    → IfErr r (Stops old new a)
+lacks_then r old new files a h stood l = lacks_of r old new files a l stood h
 
 pub prepared_of : (r : Result Output Stop) (file : List ℕ → Told) (files : List File) (a : Asked) → AreLoaded file a files → IfOk r (λ o. IsJoined files a o.text.items o.lines.items)
     → IfOk r (λ o. IsPrepared file a o.text.items o.lines.items)

@@ -98,8 +98,9 @@ pub record IsPrepared (file : List ℕ → Told) (a : Asked) (text lines : List 
   pub loaded : AreLoaded file a files
   pub joined : IsJoined files a text lines
 
--- why a run has nothing to write: a file that isn't loaded, or what the loaded ones lack
+-- why a run has nothing to write: a file that isn't loaded, or what the loaded ones lack, and then
+-- no path was answered to have no file
 pub data Stops (old new : Store) (a : Asked) (s : Stop) : Type 0 where
   Loads : (e : Failed) → SaysFailed a.inputs old new e → SaysLoad e s → Stops old new a s
-  Lacks : (files : List File) → AreLoaded old.file a files → NotJoined files a s
-      → Stops old new a s
+  Lacks : (files : List File) → AreLoaded old.file a files → new.absent ≡ old.absent
+      → NotJoined files a s → Stops old new a s

@@ -22,12 +22,13 @@ pub record IsReady (o : Option Asked) (file : List ℕ → Told) (path text line
     pub apart : is_same ask path ≡ false
     pub prepared : IsPrepared file ask text lines
 
--- why a run is refused, with this line: the words ask for nothing, an input stands twice or is the
--- output, or there is nothing to write
+-- why a run is refused, with this line: the words ask for nothing, or an input stands twice or is
+-- the output, and the store wasn't called; or there is nothing to write
 pub data IsRefused (o : Option Asked) (old new : Store) (line : List ℕ) : Type 0 where
-  Words : o ≡ None → line ≡ codes "refused words\n" → IsRefused o old new line
+  Words : o ≡ None → new ≡ old → line ≡ codes "refused words\n" → IsRefused o old new line
   Same : (a : Asked) (path : List ℕ) → o ≡ Some a → a.out ≡ Some path
-      → is_same a path ≡ true → line ≡ codes "refused same\n" → IsRefused o old new line
+      → is_same a path ≡ true → new ≡ old → line ≡ codes "refused same\n"
+      → IsRefused o old new line
   Stopped : (a : Asked) (text : Vec ℕ) → o ≡ Some a → Stops old new a (stop.Refused text)
       → line ≡ text.items → IsRefused o old new line
 
@@ -46,13 +47,15 @@ abbrev pub WrotePart : Store → Store → List ℕ → List ℕ → Type 0
 WrotePart old new path text = NoneWritten (counted old) (counted new)
     ⊎ PartWritten (counted old) (counted new) path text
 
--- what is asked for was written, no other file has changed, and the lines were sent
+-- what is asked for was written, no other file has changed, no path was answered to have no file, and
+-- the lines were sent
 pub record Writes (o : Option Asked) (old new : Store) (before after : SinkState) : Type 0 where
   pub path : List ℕ
   pub text : List ℕ
   pub lines : List ℕ
   pub ready : IsReady o old.file path text lines
   pub written : Wrote old new path text
+  pub absent : new.absent ≡ old.absent
   pub sent : Took before after lines
 
 -- no file was started, and a line that says why was sent
@@ -118,7 +121,7 @@ abbrev pub Delivers : List ℕ → List ℕ → List ℕ → Store → Store →
     → Type 0
 Delivers path text lines old new before after answer =
     (Wrote old new path text × ((counted new).faults ≡ (counted old).faults)
-    × Sends lines before after Good answer)
+    × (new.absent ≡ old.absent) × Sends lines before after Good answer)
     ⊎ ((answer ≡ Outside) × WrotePart old new path text
     × ((counted old).faults < (counted new).faults) × (after ≡ before))
 

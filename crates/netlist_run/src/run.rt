@@ -208,6 +208,7 @@ fn prepare<D: Depot>(alloc: Global, command: &Command, depot: &mut D) -> Result<
     requires apart { has_twins (asked_seen command.now).inputs ≡ false }
     ensures room { OnOk result (HasRoom (D.state depot.new)) }
     ensures reads { OnlyReads (D.state depot.old) (D.state depot.new) }
+    ensures absent { OnOk result ((D.state depot.new).absent ≡ (D.state depot.old).absent) }
     ensures faults { ShowsStop (D.state depot.old) (D.state depot.new) result }
     ensures made { IfOk result (λ o. IsPrepared (D.state depot.old).file (asked_seen command.now)
         o.text.items o.lines.items) }

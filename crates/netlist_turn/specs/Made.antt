@@ -1,16 +1,20 @@
 -- What is made of cards: the written text, the line of the card that each of its lines was, and
 -- what is told of each change.
 use Rattle.std.specs.Prelude.{ℕ, Bool, not, ◌==◌, ◌&&◌, List, [], ◌∷◌, ◌++◌, length, slice_get}
-use Rattle.std.specs.Prelude.{slice_index_or, false, Option, Some, None, if◌then◌else◌}
+use Rattle.std.specs.Prelude.{slice_index_or, false, Option, Some, None, is_some, if◌then◌else◌}
+use Rattle.std.specs.Prelude.{Result, Ok, Err}
 use Rattle.std.specs.Global.{Vec}
 use Rattle.std.specs.List.{list_any}
 use Rattle.net_names.specs.Folding.{folded_bytes}
 use Rattle.text_table.specs.Texts.{has_text, place_of}
 use Rattle.spice_cards.specs.Parts.{Param}
-use Rattle.netlist_turn.specs.Words.{has_escape, left_out, is_kept_key, unquoted, first_name}
+use Rattle.fixed_num.specs.declared.femto.ValueFault.{ValueFault}
+use Rattle.netlist_turn.specs.Scale.{is_unscaled, micro_text, scaled}
+use Rattle.netlist_turn.specs.Words.{has_escape, left_out, is_kept_key, is_size_key, unquoted}
+use Rattle.netlist_turn.specs.Words.{first_name}
 use Rattle.netlist_turn.specs.declared.rows.Row.{Row}
 use Rattle.netlist_turn.specs.declared.made.Kind.{Kind}
-use Rattle.netlist_turn.specs.declared.made.Kind.TheVariants.{Name, Value, Quotes, Parameter}
+use Rattle.netlist_turn.specs.declared.made.Kind.TheVariants.{Name, Value, Quotes, Parameter, Size}
 use Rattle.netlist_turn.specs.declared.made.Where.{Where}
 use Rattle.netlist_turn.specs.declared.settings.Settings.{Settings}
 
@@ -49,25 +53,50 @@ abbrev pub words_made : Row → Made → ℕ → List (List ℕ) → Made
 words_made row m line [] = m
 words_made row m line (w ∷ ws) = words_made row (word_or m line w (left_out row w ws)) line ws
 
--- the value of a name that `.PARAM` defines, in its place
-abbrev pub put_in : Made → ℕ → List ℕ → Option (Vec ℕ) → Made
-put_in m line plain None = writing m plain
-put_in m line plain (Some text) = telling (writing m text.items) line Value plain
+-- the value of a name that `.PARAM` defines stands for it
+abbrev pub meant : List ℕ → Option (Vec ℕ) → List ℕ
+meant plain None = plain
+meant plain (Some text) = text.items
+
+-- and is told
+abbrev pub naming : Made → ℕ → List ℕ → Option (Vec ℕ) → Made
+naming m line plain None = m
+naming m line plain (Some text) = telling m line Value plain
 
 abbrev pub unquoting : Made → ℕ → List ℕ → Made
 unquoting m line v = if length (unquoted v) == length v then m else telling m line Quotes v
 
--- a value without quotes and with a defined name's value in its place, and a blank
-abbrev pub value_made : Settings → Made → ℕ → List ℕ → Made
-value_made s m line v =
-    writing (put_in (unquoting m line v) line (unquoted v)
-    (slice_get s.values.items (place_of s.names (folded_bytes (unquoted v))))) (0x20 ∷ [])
+-- the value of the name that a text without quotes is, where `.PARAM` defines it
+abbrev pub value_for : Settings → List ℕ → Option (Vec ℕ)
+value_for s plain = slice_get s.values.items (place_of s.names (folded_bytes plain))
+
+-- the scale, for a size
+abbrev pub factor_at : Settings → Row → List ℕ → Option ℕ
+factor_at s row key = if is_size_key row key then s.scale else None
+
+-- a size by the scale, told by its key
+abbrev pub size_made : Made → ℕ → List ℕ → List ℕ → Result ℕ ValueFault → Made
+size_made m line key text (Ok n) = telling (writing m (micro_text n)) line Size key
+size_made m line key text (Err e) = writing m text
+
+abbrev pub by_factor : Made → ℕ → List ℕ → List ℕ → Option ℕ → Made
+by_factor m line key text None = writing m text
+by_factor m line key text (Some scale) = size_made m line key text (scaled scale text)
+
+-- a value without quotes, with a defined name's value in its place, and by the scale where it is a
+-- size, and a blank
+abbrev pub value_made : Settings → Row → Made → ℕ → Param → Made
+value_made s row m line p =
+    writing (by_factor
+    (naming (unquoting m line p.value) line (unquoted p.value) (value_for s (unquoted p.value)))
+    line p.key (meant (unquoted p.value) (value_for s (unquoted p.value)))
+    (factor_at s row p.key)) (0x20 ∷ [])
 
 -- a parameter is kept, or told
 abbrev pub param_made : Settings → Row → Made → ℕ → Param → Made
 param_made s row m line p =
-    if is_kept_key row p.key
-    then value_made s (writing (writing m p.key) (0x3D ∷ [])) line p.value
+    if is_kept_key (is_some s.scale) row p.key
+    then value_made s row (writing (writing m p.key) (0x3D ∷ [])) line p
     else telling m line Parameter p.key
 
 abbrev pub params_made : Settings → Row → Made → ℕ → List Param → Made
@@ -87,6 +116,14 @@ card_made s row m line first words ps =
 -- a parameter's name is one that `.PARAM` defines
 abbrev pub has_shadow : Settings → List Param → Bool
 has_shadow s ps = list_any (λ p. has_text s.names (folded_bytes p.key)) ps
+
+-- a size can't be turned by the scale
+unfoldable pub is_stuck : Settings → Row → Param → Bool
+is_stuck s row p =
+    is_unscaled (factor_at s row p.key) (meant (unquoted p.value) (value_for s (unquoted p.value)))
+
+abbrev pub has_stuck : Settings → Row → List Param → Bool
+has_stuck s row ps = list_any (is_stuck s row) ps
 
 -- the circuit of this name isn't among those that are kept
 abbrev pub is_left : Settings → List (List ℕ) → Bool

@@ -5,7 +5,7 @@ use Rattle.spice_cards.specs.Tokens.{Token, Word, Equals}
 use Rattle.spice_cards.specs.Parts.{Param, words_of, behind_words, params_of}
 use Rattle.spice_cards.specs.Cards.{Card, cards_of, early_more}
 use Rattle.netlist_turn.specs.Words.{changes_sizes, row_of}
-use Rattle.netlist_turn.specs.Made.{Made, telling, card_made, has_shadow, is_left}
+use Rattle.netlist_turn.specs.Made.{Made, telling, card_made, has_shadow, has_stuck, is_left}
 use Rattle.netlist_turn.specs.declared.rows.Row.{Row}
 use Rattle.netlist_turn.specs.declared.rows.Row.TheVariants.{Device, Call, Opening, Ending, Plain}
 use Rattle.netlist_turn.specs.declared.rows.Row.TheVariants.{Passed, Capacitor, Resistor, Unknown}
@@ -16,6 +16,7 @@ use Rattle.netlist_turn.specs.declared.turn.Fate.{Fate}
 use Rattle.netlist_turn.specs.declared.turn.Fate.TheVariants.{Keeps, Drops, Refuses}
 use Rattle.netlist_turn.specs.declared.fault.TurnFault.{TurnFault}
 use Rattle.netlist_turn.specs.declared.fault.TurnFault.TheVariants.{UnknownCard, BadForm, Shadowed, EarlyMore, Resized}
+use Rattle.netlist_turn.specs.declared.fault.TurnFault.TheVariants.{Unscaled}
 use Rattle.netlist_turn.specs.declared.settings.Settings.{Settings}
 
 -- a card stands in a circuit that is left out, or outside all where only circuits are kept
@@ -75,6 +76,7 @@ abbrev pub kept_card : Settings → Row → Made → ℕ → List ℕ → List (
 kept_card s row m line first words None = Err (BadForm line)
 kept_card s row m line first words (Some ps) =
     if is_opening row && has_shadow s ps then Err (Shadowed line)
+    else if has_stuck s row ps then Err (Unscaled line)
     else Ok (card_made s row m line first words ps)
 
 abbrev pub by_fate : Settings → Row → Made → ℕ → List ℕ → List Token → Fate → Result Made TurnFault

@@ -25,11 +25,12 @@ has_escape word = list_any (λ b. b == 0x5C) word
 abbrev pub is_option : List ℕ → Bool
 is_option w = is_text (codes ".OPTION") w || is_text (codes ".OPTIONS") w
 
--- an option by which the sizes of devices are others than those that stand on their cards
+-- an option, but for SCALE, by which the sizes of devices are others than those that stand on their
+-- cards
 abbrev pub is_size_option : List ℕ → Bool
 is_size_option w =
-    is_text (codes "SCALE") w || is_text (codes "SCALM") w || is_text (codes "DEFL") w
-    || is_text (codes "DEFW") w || is_text (codes "DEFAD") w || is_text (codes "DEFAS") w
+    is_text (codes "SCALM") w || is_text (codes "DEFL") w || is_text (codes "DEFW") w
+    || is_text (codes "DEFAD") w || is_text (codes "DEFAS") w
 
 abbrev pub has_size_option : List Token → Bool
 has_size_option [] = false
@@ -85,12 +86,24 @@ left_out Call w behind =
 left_out Opening w behind = if is_params w && is_none behind then Some Params else None
 left_out row w behind = None
 
--- a parameter that says something, or that the reader passes over
-abbrev pub is_kept_key : Row → List ℕ → Bool
-is_kept_key Device key = is_text (codes "M") key || is_device_key Mos4 key
-is_kept_key Call key = is_text (codes "M") key
-is_kept_key Opening key = false
-is_kept_key row key = true
+-- areas and perimeters of a transistor, which a scale changes and the reader passes over
+abbrev pub is_edge_key : List ℕ → Bool
+is_edge_key key =
+    is_text (codes "AS") key || is_text (codes "AD") key || is_text (codes "PS") key
+    || is_text (codes "PD") key
+
+-- a parameter that says something, or that the reader passes over, where there is a scale or none
+abbrev pub is_kept_key : Bool → Row → List ℕ → Bool
+is_kept_key has_scale Device key =
+    is_text (codes "M") key || (is_device_key Mos4 key && not (has_scale && is_edge_key key))
+is_kept_key has_scale Call key = is_text (codes "M") key
+is_kept_key has_scale Opening key = false
+is_kept_key has_scale row key = true
+
+-- length and width of a transistor, which the scale turns
+abbrev pub is_size_key : Row → List ℕ → Bool
+is_size_key Device key = is_text (codes "L") key || is_text (codes "W") key
+is_size_key row key = false
 
 -- two equal quotes enclose the value
 abbrev pub is_quoted : List ℕ → Bool

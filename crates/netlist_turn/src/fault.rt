@@ -21,6 +21,12 @@ pub enum TurnFault {
     Twice(u64),
     #[error("line {0}: an option that changes sizes")]
     Resized(u64),
+    #[error("line {0}: a SCALE that is no number")]
+    BadScale(u64),
+    #[error("line {0}: a second SCALE")]
+    SecondScale(u64),
+    #[error("line {0}: a size that the scale doesn't turn into one")]
+    Unscaled(u64),
     #[error("no memory")]
     NoMemory,
 }

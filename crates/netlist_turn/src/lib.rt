@@ -4,13 +4,15 @@
 mod fault;
 mod made;
 mod rows;
+mod scale;
 mod settings;
 mod turn;
 mod words;
 
 pub use fault::TurnFault;
 pub use made::{Kind, Told, Turned, Where};
-pub use rows::{Row, is_param_word, row_of};
+pub use rows::{Row, is_option, is_param_word, row_of};
+pub use scale::{push_micros, scale_of};
 pub use settings::Settings;
 pub use turn::turn_cards;
 pub use words::{folded, is_params, is_text, unquoted};

@@ -3,7 +3,8 @@
 ghost use Rattle.std.specs.Prelude.{◌≡◌, OnOk};
 
 use crate::rows::{Row, is_kept_key, left_out};
-use crate::settings::{Settings, value_place};
+use crate::scale::{push_micros, scaled};
+use crate::settings::{Settings, factor_at, meant, value_for};
 use crate::words::{has_escape, unquoted};
 use spice_cards::Param;
 use std::alloc::{AllocError, Global};
@@ -25,6 +26,8 @@ pub enum Kind {
     Quotes,
     /// A backslash stands for itself in the word.
     Name,
+    /// A size is turned by the scale.
+    Size,
 }
 
 /// A change: the line of its card, what it is, and the word that stood there.
@@ -67,8 +70,9 @@ impl<'a> Turned<'a> {
     ghost use Rattle.netlist_turn.specs.Words.{unquoted};
     ghost use Rattle.spice_cards.specs.Seen.{params_seen, param_seen, words_seen};
     ghost use Rattle.netlist_turn.specs.Made.{card_made, line_made, param_made, params_made};
-    ghost use Rattle.netlist_turn.specs.Made.{put_in, telling, unquoting, value_made, word_made};
-    ghost use Rattle.netlist_turn.specs.Made.{word_or, words_made, writing};
+    ghost use Rattle.netlist_turn.specs.Made.{by_factor, naming, size_made, telling, unquoting};
+    ghost use Rattle.netlist_turn.specs.Made.{value_made, word_made, word_or, words_made, writing};
+    ghost use Rattle.netlist_turn.specs.Scale.{micro_text, scaled};
     ghost use Rattle.netlist_turn.specs.Seen.{seen};
     ghost use Rattle.netlist_turn.specs.Turning.{nothing};
 
@@ -146,21 +150,47 @@ impl<'a> Turned<'a> {
         Ok(())
     }
 
-    fn put_in(
+    fn name(
         &mut self,
         line: u64,
         plain: &'a [u8],
         found: Option<&Vec<u8>>,
     ) -> Result<(), AllocError>
         ensures { OnOk result (seen self.new
-            ≡ put_in (seen self.old) line plain.now (option_copied found.entry)) }
+            ≡ naming (seen self.old) line plain.now (option_copied found.entry)) }
     {
         match found {
-            None => self.write(plain),
-            Some(text) => {
-                self.write(text.as_slice())?;
-                self.tell(line, Kind::Value, plain)
+            None => Ok(()),
+            Some(_) => self.tell(line, Kind::Value, plain),
+        }
+    }
+
+    fn push_size(&mut self, alloc: Global, n: u128) -> Result<(), AllocError>
+        ensures { OnOk result (seen self.new ≡ writing (seen self.old) (micro_text n)) }
+    {
+        push_micros(alloc, &mut self.text, n)
+    }
+
+    fn push_by_factor(
+        &mut self,
+        alloc: Global,
+        line: u64,
+        key: &'a [u8],
+        text: &[u8],
+        factor: Option<u128>,
+    ) -> Result<(), AllocError>
+        ensures { OnOk result
+            (seen self.new ≡ by_factor (seen self.old) line key.now text.now factor) }
+    {
+        let Some(scale) = factor else {
+            return self.write(text);
+        };
+        match scaled(scale, text) {
+            Ok(n) => {
+                self.push_size(alloc, n)?;
+                self.tell(line, Kind::Size, key)
             }
+            Err(_) => self.write(text),
         }
     }
 
@@ -168,17 +198,19 @@ impl<'a> Turned<'a> {
         &mut self,
         alloc: Global,
         settings: &Settings,
+        row: Row,
         line: u64,
-        value: &'a [u8],
+        param: &Param<'a>,
     ) -> Result<(), AllocError>
         ensures { OnOk result
-            (seen self.new ≡ value_made settings.now (seen self.old) line value.now) }
+            (seen self.new ≡ value_made settings.now row (seen self.old) line (param_seen param.now)) }
     {
-        let plain = unquoted(value);
-        self.unquote(line, value, plain)?;
-        let place = value_place(alloc, settings, plain)?;
-        let found = settings.values.get(place);
-        self.put_in(line, plain, found)?;
+        let plain = unquoted(param.value);
+        self.unquote(line, param.value, plain)?;
+        let found = value_for(alloc, settings, plain)?;
+        self.name(line, plain, found)?;
+        let factor = factor_at(settings, row, param.key);
+        self.push_by_factor(alloc, line, param.key, meant(plain, found), factor)?;
         self.write(b" ")
     }
 
@@ -190,15 +222,15 @@ impl<'a> Turned<'a> {
         line: u64,
         param: &Param<'a>,
     ) -> Result<(), AllocError>
-        ensures { OnOk result (seen self.new
-            ≡ param_made settings.now row (seen self.old) line (param_seen param.now)) }
+        ensures { OnOk result
+            (seen self.new ≡ param_made settings.now row (seen self.old) line (param_seen param.now)) }
     {
-        if !is_kept_key(row, param.key) {
+        if !is_kept_key(settings.scale.is_some(), row, param.key) {
             return self.tell(line, Kind::Parameter, param.key);
         }
         self.write(param.key)?;
         self.write(b"=")?;
-        self.push_value(alloc, settings, line, param.value)
+        self.push_value(alloc, settings, row, line, param)
     }
 
     fn push_params(

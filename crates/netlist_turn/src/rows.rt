@@ -7,7 +7,8 @@ ghost use Rattle.spice_rows.specs.Params.{is_device_key};
 ghost use Rattle.spice_rows.specs.Rows.{begin};
 ghost use Rattle.std.specs.Prelude.{codes};
 ghost use Rattle.spice_rows.specs.Names.{is_text};
-ghost use Rattle.netlist_turn.specs.Words.{is_circuit_end, is_kept_key, is_none, is_passed_word};
+ghost use Rattle.netlist_turn.specs.Words.{is_circuit_end, is_edge_key, is_kept_key, is_none};
+ghost use Rattle.netlist_turn.specs.Words.{is_passed_word, is_size_key};
 ghost use Rattle.netlist_turn.specs.Words.{left_out, row_of};
 ghost use Rattle.netlist_turn.specs.Words.{changes_sizes, has_size_option, is_option};
 ghost use Rattle.netlist_turn.specs.Words.{is_size_option};
@@ -41,7 +42,8 @@ pub fn is_param_word(word: &[u8]) -> bool
     is_text(word, b".PARAM")
 }
 
-fn is_option(word: &[u8]) -> bool
+/// Whether a card begins with `.OPTION` or `.OPTIONS`.
+pub fn is_option(word: &[u8]) -> bool
     ensures { result ≡ is_option word.now }
 {
     is_text(word, b".OPTION") || is_text(word, b".OPTIONS")
@@ -50,8 +52,7 @@ fn is_option(word: &[u8]) -> bool
 fn is_size_option(word: &[u8]) -> bool
     ensures { result ≡ is_size_option word.now }
 {
-    is_text(word, b"SCALE")
-        || is_text(word, b"SCALM")
+    is_text(word, b"SCALM")
         || is_text(word, b"DEFL")
         || is_text(word, b"DEFW")
         || is_text(word, b"DEFAD")
@@ -179,14 +180,31 @@ fn is_device_key(key: &[u8]) -> bool
         || is_text(key, b"NF")
 }
 
-/// Whether a parameter of this name says something, or is passed over by the profile's reader.
-pub fn is_kept_key(row: Row, key: &[u8]) -> bool
-    ensures { result ≡ is_kept_key row key.now }
+fn is_edge_key(key: &[u8]) -> bool
+    ensures { result ≡ is_edge_key key.now }
+{
+    is_text(key, b"AS") || is_text(key, b"AD") || is_text(key, b"PS") || is_text(key, b"PD")
+}
+
+/// Whether a parameter of this name says something, or is passed over by the profile's reader; where
+/// there is a scale, not areas and perimeters, which it changes.
+pub fn is_kept_key(has_scale: bool, row: Row, key: &[u8]) -> bool
+    ensures { result ≡ is_kept_key has_scale row key.now }
 {
     match row {
-        Row::Device => is_text(key, b"M") || is_device_key(key),
+        Row::Device => is_text(key, b"M") || is_device_key(key) && !(has_scale && is_edge_key(key)),
         Row::Call => is_text(key, b"M"),
         Row::Opening => false,
         _ => true,
+    }
+}
+
+/// Whether a parameter of this name is a size that the scale turns.
+pub fn is_size_key(row: Row, key: &[u8]) -> bool
+    ensures { result ≡ is_size_key row key.now }
+{
+    match row {
+        Row::Device => is_text(key, b"L") || is_text(key, b"W"),
+        _ => false,
     }
 }

@@ -1,19 +1,24 @@
 //! What cards are turned by.
 
 ghost use Rattle.std.specs.Prelude.{◌≡◌, IfOk};
-ghost use Rattle.spice_cards.specs.Seen.{params_seen, words_seen};
+ghost use Rattle.spice_cards.specs.Seen.{param_seen, params_seen, words_seen};
 ghost use Rattle.net_names.specs.Folding.{folded_bytes};
 ghost use Rattle.text_table.specs.Texts.{place_of};
-ghost use Rattle.netlist_turn.specs.Made.{has_shadow, is_left};
+ghost use Rattle.std.specs.Option.{option_copied};
+ghost use Rattle.netlist_turn.specs.Made.{factor_at, has_shadow, has_stuck, is_left, is_stuck, meant};
+ghost use Rattle.netlist_turn.specs.Made.{value_for};
+ghost use Rattle.netlist_turn.specs.Words.{unquoted};
 
-use crate::words::folded;
+use crate::rows::{Row, is_size_key};
+use crate::scale::is_unscaled;
+use crate::words::{folded, unquoted};
 use spice_cards::Param;
 use std::alloc::{AllocError, Global};
 use text_table::TextTable;
 
 /// What cards are turned by: the names that `.PARAM` cards define, folded, and their values; the
-/// circuits that are kept, all or those that are marked; and whether capacitors and resistors are
-/// left out.
+/// circuits that are kept, all or those that are marked; whether capacitors and resistors are left
+/// out; and the factor of sizes in 10^-15, where the text has one.
 #[derive(Drop)]
 pub struct Settings {
     pub names: TextTable,
@@ -23,6 +28,7 @@ pub struct Settings {
     pub all: bool,
     pub capacitors: bool,
     pub resistors: bool,
+    pub scale: Option<u128>,
 }
 
 /// Whether the circuit of a card's first name is left out.
@@ -57,6 +63,71 @@ pub fn has_shadow(alloc: Global, settings: &Settings, params: &[Param]) -> Resul
     'params: while let [p, more @ ..] = rest {
         let name = folded(alloc, p.key)?;
         if settings.names.contains(&name) {
+            return Ok(true);
+        }
+        rest = more;
+    }
+    Ok(false)
+}
+
+/// The value of the name that a text without quotes is, where a `.PARAM` defines it.
+pub fn value_for<'a>(
+    alloc: Global,
+    settings: &'a Settings,
+    plain: &[u8],
+) -> Result<Option<&'a Vec<u8>>, AllocError>
+    ensures { IfOk result (λ v. option_copied v ≡ value_for settings.now plain.now) }
+{
+    let place = value_place(alloc, settings, plain)?;
+    Ok(settings.values.get(place))
+}
+
+/// The text that a value stands for.
+pub fn meant<'a>(plain: &'a [u8], found: Option<&'a Vec<u8>>) -> &'a [u8]
+    ensures { result.now ≡ meant plain.now (option_copied found.entry) }
+{
+    match found {
+        None => plain,
+        Some(text) => text.as_slice(),
+    }
+}
+
+/// The scale, for a size.
+pub fn factor_at(settings: &Settings, row: Row, key: &[u8]) -> Option<u128>
+    ensures { result ≡ factor_at settings.now row key.now }
+{
+    if is_size_key(row, key) {
+        settings.scale
+    } else {
+        None
+    }
+}
+
+#[tactic(auto, using(crate::proofs::SizeLemmas::stuck_is))]
+fn is_stuck(alloc: Global, settings: &Settings, row: Row, param: &Param) -> Result<bool, AllocError>
+    ensures { IfOk result (λ b. b ≡ is_stuck settings.now row (param_seen param.now)) }
+{
+    let factor = factor_at(settings, row, param.key);
+    if factor.is_none() {
+        return Ok(false);
+    }
+    let plain = unquoted(param.value);
+    let found = value_for(alloc, settings, plain)?;
+    Ok(is_unscaled(factor, meant(plain, found)))
+}
+
+/// Whether a size can't be turned by the scale.
+pub fn has_stuck(
+    alloc: Global,
+    settings: &Settings,
+    row: Row,
+    params: &[Param],
+) -> Result<bool, AllocError>
+    ensures { IfOk result (λ b. b ≡ has_stuck settings.now row (params_seen params.now)) }
+{
+    let mut rest = params;
+    'params: while let [p, more @ ..] = rest {
+        if is_stuck(alloc, settings, row, p)? {
             return Ok(true);
         }
         rest = more;

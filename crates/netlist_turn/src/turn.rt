@@ -12,7 +12,7 @@ ghost use Rattle.netlist_turn.specs.Turning.{opened, turned, turning, word_taken
 use crate::fault::TurnFault;
 use crate::made::{Head, Kind, Turned, Where};
 use crate::rows::{Row, changes_sizes, row_of};
-use crate::settings::{Settings, has_shadow, is_left};
+use crate::settings::{Settings, has_shadow, has_stuck, is_left};
 use spice_cards::{CardReader, Token, read_params, read_words};
 use std::alloc::{AllocError, Global};
 
@@ -127,6 +127,9 @@ fn take_by_fate<'a>(
             }
             if is_opening(row) && has_shadow(alloc, settings, &params)? {
                 return Err(TurnFault::Shadowed(line));
+            }
+            if has_stuck(alloc, settings, row, &params)? {
+                return Err(TurnFault::Unscaled(line));
             }
             made.push_card(alloc, settings, head, &words, &params)?;
             Ok(())

@@ -190,16 +190,19 @@ impl Colours {
         sum
     }
 
-    // These nodes with their colours and what is around them, in order, each once.
+    // These nodes with their colours and what is around them, in order, each once: but for those
+    // of a colour that can't be parted, such as a supply that both sides name, of very many ends.
     fn keys_of(&self, alloc: Global, graph: &Graph, nodes: &[u32]) -> Result<Vec<Key>, AllocError> {
         let mut keys = Vec::new(alloc);
         for node in nodes {
             if let Some(colour) = self.of(*node) {
-                keys.push(Key {
-                    class: u64::from(colour),
-                    around: self.around(graph, *node),
-                    node: *node,
-                })?;
+                if self.size_to_part(colour).is_some() {
+                    keys.push(Key {
+                        class: u64::from(colour),
+                        around: self.around(graph, *node),
+                        node: *node,
+                    })?;
+                }
             }
         }
         keys.sort_unstable();

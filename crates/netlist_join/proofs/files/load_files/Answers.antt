@@ -21,6 +21,7 @@ loop-k-init g c =
       e.room,
       e.reads,
       e.faults,
+      e.absent,
       e.told,
       starts_same (paths_of new) (with_paths [] ins) all,
       apart_at_first c.new-files.result.items new ins none e.paths,
@@ -40,7 +41,7 @@ returns-in_err-add_all-2-clause-failed g c =
     let why : IfErr c.from_residual-in_err-add_all-2.result (NotRead (λ p. has_path (map string_bytes c.deref.result.now) p ≡ true) (g.D.Depot.state c.loop-k.depot) (g.D.Depot.state c.add_all-in-loop-k.new.depot)) =
     search rules in
     not_named _ c.from_residual-in_err-add_all-2.result (map string_bytes c.args.inputs.now) (map string_bytes c.deref.result.now) files c.loop-k.k c.index.result.now (g.D.Depot.state c.args.depot.now)
-    (g.D.Depot.state c.loop-k.depot) (g.D.Depot.state c.add_all-in-loop-k.new.depot) i.1 i.3 i.5 i.7 lt (names ∙ ap (λ (f : File). named f) c.index.ensures) why
+    (g.D.Depot.state c.loop-k.depot) (g.D.Depot.state c.add_all-in-loop-k.new.depot) i.1 i.3 i.4 i.6 i.8 lt (names ∙ ap (λ (f : File). named f) c.index.ensures) why
 
 pub loop-k-preserved : goal.loop-k-preserved
 loop-k-preserved g c =
@@ -56,13 +57,14 @@ loop-k-preserved g c =
       e.room,
       reads_on (g.D.Depot.state c.args.depot.now) (g.D.Depot.state c.loop-k.depot) (g.D.Depot.state c.add_all-in-loop-k.new.depot) i.1 e.reads,
       e.faults ∙ i.2,
+      e.absent ∙ i.3,
       e.told,
-      starts_more (with_paths [] ins) (paths_of old) (paths_of new) ps i.4 e.paths,
-      subst (λ (qs : List (List ℕ)). has_twins qs ≡ false) (sym e.paths) (stay_apart (paths_of old) ps i.5),
+      starts_more (with_paths [] ins) (paths_of old) (paths_of new) ps i.5 e.paths,
+      subst (λ (qs : List (List ℕ)). has_twins qs ≡ false) (sym e.paths) (stay_apart (paths_of old) ps i.6),
       as_many old new ps (c.loop-k.k + 1) e.paths (omega (arith, c.if-k-len.false)),
       reached_more ins (λ p. has_path (map string_bytes c.deref.result.now) p ≡ true) old new
-          (λ p h. asked_by (map string_bytes c.args.inputs.now) c.loop-k.files.items c.loop-k.k c.index.result.now p lt (subst (λ (qs : List (List ℕ)). has_path qs p ≡ true) is h)) e.more i.7,
-      subst (λ (qs : List (List ℕ)). list_all (λ p. has_path qs p) (map string_bytes c.args.inputs.now) ≡ true) (sym e.paths) (all_stay (paths_of old) ps ins i.8),
+          (λ p h. asked_by (map string_bytes c.args.inputs.now) c.loop-k.files.items c.loop-k.k c.index.result.now p lt (subst (λ (qs : List (List ℕ)). has_path qs p ≡ true) is h)) e.more i.8,
+      subst (λ (qs : List (List ℕ)). list_all (λ p. has_path qs p) (map string_bytes c.args.inputs.now) ≡ true) (sym e.paths) (all_stay (paths_of old) ps ins i.9),
       there_on (λ p. has_path (map string_bytes c.deref.result.now) p ≡ true) old new c.loop-k.k c.index.result.now lt e.more
-          (e.paths ∙ ap (λ (qs : List (List ℕ)). with_paths (paths_of c.loop-k.files.items) qs) is) i.9,
+          (e.paths ∙ ap (λ (qs : List (List ℕ)). with_paths (paths_of c.loop-k.files.items) qs) is) i.10,
     )

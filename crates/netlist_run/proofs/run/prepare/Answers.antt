@@ -14,4 +14,4 @@ returns-in-Err-clause-refused g c =
 
 pub returns-in-Ok-clause-refused : goal.returns-in-Ok-clause-refused
 returns-in-Ok-clause-refused g c =
-    lacks_then c.joined_output.result (g.D.Depot.state c.args.depot.now) (g.D.Depot.state c.load_files.new.depot) _ (asked_seen c.args.command.now) c.joined_output.ensures.refused (search (rules, loaded))
+    lacks_then c.joined_output.result (g.D.Depot.state c.args.depot.now) (g.D.Depot.state c.load_files.new.depot) _ (asked_seen c.args.command.now) c.joined_output.ensures.refused c.in-Ok.ensures.absent (search (rules, loaded))

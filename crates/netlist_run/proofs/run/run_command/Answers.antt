@@ -10,5 +10,5 @@ returns-in-Err g c =
 pub returns-in-Ok : goal.returns-in-Ok
 returns-in-Ok g c =
     made_ends (asked_seen c.args.command.now) c.args.path.now c.in-Ok.output.text.items c.in-Ok.output.lines.items (g.D.Depot.state c.args.depot.now) (g.D.Depot.state c.prepare.new.depot)
-    (g.D.Depot.state c.deliver.new.depot) (g.S.Sink.state c.args.out.now) (g.S.Sink.state c.deliver.new.out) c.deliver.result c.requires.path c.requires.apart c.prepare.ensures.reads c.in-Ok.ensures.faults
+    (g.D.Depot.state c.deliver.new.depot) (g.S.Sink.state c.args.out.now) (g.S.Sink.state c.deliver.new.out) c.deliver.result c.requires.path c.requires.apart c.prepare.ensures.reads c.in-Ok.ensures.absent c.in-Ok.ensures.faults
     c.in-Ok.ensures.made c.deliver.ensures

@@ -2,7 +2,7 @@ use Rattle.std.proofs.Common.{ℕ, ◌<◌}
 use Rattle.std.specs.List.{All}
 use Rattle.geo_base.specs.declared.shapes.Square.{Square}
 use Rattle.cell_context.specs.Visits.{IsElementVisit, IsMet, IsFound}
-use Rattle.cell_context.proofs.arrays.place_visits.Given as goal
+use Rattle.cell_context.proofs.arrays.array_visits.Given as goal
 
 abbrev pub invariant-loop-row : goal.invariant-loop-row
 invariant-loop-row l = record {
