@@ -28,7 +28,7 @@ use Rattle.netlist_run.specs.declared.status.Stop.TheVariants as stop
 
 pub output_is : {E : Type 0} (r : Result Output E) (files : List File) (joined : Joined) (a : Asked) (settings : Settings) (made : Made)
     → IsPlan joined.text.items a.top a.leaving settings true → turned settings joined.text.items ≡ Ok made → IfOk r (λ o. o.text.items ≡ made.text)
-    → IfOk r (λ o. o.lines.items ≡ told_text a.has_title files joined.origins.items joined.comments made.told (length made.lines)) → IfOk r (λ o. IsAccepted made.text)
+    → IfOk r (λ o. o.lines.items ≡ told_text a.has_title files joined.origins.items joined.comments settings.scale made.told (length made.lines)) → IfOk r (λ o. IsAccepted made.text)
     → IfOk r (λ o. IsOutput files joined a o.text.items o.lines.items)
 output_is (Ok o) files joined a settings made plan e text lines accepted = record {
   settings = settings;

@@ -56,6 +56,9 @@ not_defined files j a (turn.Shadowed line) s h says = Defines (turn.Shadowed lin
 not_defined files j a (turn.EarlyMore line) s h says = Defines (turn.EarlyMore line) h says
 not_defined files j a (turn.Twice line) s h says = Defines (turn.Twice line) h says
 not_defined files j a (turn.Resized line) s h says = Defines (turn.Resized line) h says
+not_defined files j a (turn.BadScale line) s h says = Defines (turn.BadScale line) h says
+not_defined files j a (turn.SecondScale line) s h says = Defines (turn.SecondScale line) h says
+not_defined files j a (turn.Unscaled line) s h says = Defines (turn.Unscaled line) h says
 
 pub not_turned : (files : List File) (j : Joined) (a : Asked) (settings : Settings) (e : TurnFault) (s : Stop) → IsPlan j.text.items a.top a.leaving settings true
     → SaysTurnFault e (turned settings j.text.items) → SaysTurn files j.origins.items e s → NotMade files j a s
@@ -66,6 +69,9 @@ not_turned files j a settings (turn.Shadowed line) s plan h says = Turns setting
 not_turned files j a settings (turn.EarlyMore line) s plan h says = Turns settings (turn.EarlyMore line) plan h says
 not_turned files j a settings (turn.Twice line) s plan h says = Turns settings (turn.Twice line) plan h says
 not_turned files j a settings (turn.Resized line) s plan h says = Turns settings (turn.Resized line) plan h says
+not_turned files j a settings (turn.BadScale line) s plan h says = Turns settings (turn.BadScale line) plan h says
+not_turned files j a settings (turn.SecondScale line) s plan h says = Turns settings (turn.SecondScale line) plan h says
+not_turned files j a settings (turn.Unscaled line) s plan h says = Turns settings (turn.Unscaled line) plan h says
 
 pub not_joined : (files : List File) (a : Asked) (e : JoinFault) (s : Stop) → AllThereLaw → AreAsked a.inputs files → StartsWith (paths_of files) a.inputs
     → SaysJoinFault e (joined_files files (length a.inputs) a.has_title) → SaysJoin files e s → NotJoined files a s
@@ -82,6 +88,9 @@ turn_inside files origins (turn.Shadowed line) h = h
 turn_inside files origins (turn.EarlyMore line) h = h
 turn_inside files origins (turn.Twice line) h = h
 turn_inside files origins (turn.Resized line) h = h
+turn_inside files origins (turn.BadScale line) h = h
+turn_inside files origins (turn.SecondScale line) h = h
+turn_inside files origins (turn.Unscaled line) h = h
 
 spice_inside : (files : List File) (origins : List Origin) (lines : List ℕ) (f : SpiceFault) → SaysSpice files origins lines f stop.Outside → ⊥
 spice_inside files origins lines spice.NoMemory h = absurd cc

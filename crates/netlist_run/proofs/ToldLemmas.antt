@@ -6,9 +6,11 @@ use Rattle.netlist_run.specs.Sums.{Sums, names_text, counts_text}
 abbrev pub tail : ℕ → Sums → List ℕ → List ℕ
 tail comments s written = names_text s ++ (counts_text comments s ++ written)
 
-pub told_is : (comments : ℕ) (title written : List ℕ) (s t : Sums) (titled carded told cards : List ℕ) → s ≡ t → titled ≡ [] ++ title → cards ≡ s.cards → carded ≡ titled ++ cards
-    → told ≡ carded ++ tail comments s written → told ≡ title ++ (t.cards ++ tail comments t written)
-told_is comments title written s t titled carded told cards e first are then last =
+pub told_is : (comments : ℕ) (title scale written : List ℕ) (s t : Sums) (titled carded sized told cards : List ℕ) → s ≡ t → titled ≡ [] ++ title → cards ≡ s.cards → carded ≡ titled ++ cards
+    → sized ≡ carded ++ scale → told ≡ sized ++ tail comments s written → told ≡ title ++ (t.cards ++ (scale ++ tail comments t written))
+told_is comments title scale written s t titled carded sized told cards e first are then by last =
     let both : carded ≡ title ++ s.cards = then ∙ ap (λ (x : List ℕ). x ++ cards) first ∙ ap (λ (x : List ℕ). title ++ x) are in
-    last ∙ ap (λ (x : List ℕ). x ++ tail comments s written) both ∙ append_assoc title s.cards (tail comments s written)
-    ∙ ap (λ (x : Sums). title ++ (x.cards ++ tail comments x written)) e
+    let all : sized ≡ (title ++ s.cards) ++ scale = by ∙ ap (λ (x : List ℕ). x ++ scale) both in
+    last ∙ ap (λ (x : List ℕ). x ++ tail comments s written) all ∙ append_assoc (title ++ s.cards) scale (tail comments s written)
+    ∙ append_assoc title s.cards (scale ++ tail comments s written)
+    ∙ ap (λ (x : Sums). title ++ (x.cards ++ (scale ++ tail comments x written))) e

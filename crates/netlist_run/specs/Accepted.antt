@@ -45,7 +45,7 @@ pub record IsOutput (files : List File) (joined : Joined) (a : Asked) (text line
   pub turned : turned settings joined.text.items ≡ Ok made
   pub text_is : text ≡ made.text
   pub lines_are : lines
-      ≡ told_text a.has_title files joined.origins.items joined.comments made.told
+      ≡ told_text a.has_title files joined.origins.items joined.comments settings.scale made.told
       (length made.lines)
   pub accepted : IsAccepted text
 

@@ -1,28 +1,31 @@
--- The names that `.PARAM` cards define, and their values.
+-- The names that `.PARAM` cards define, and their values, and the scale that an option card sets.
 use Rattle.std.specs.Prelude.{◌≡◌, ℕ, List, [], ◌∷◌, ◌++◌, map, Option, Some, None, Result, Ok, Err}
-use Rattle.std.specs.Prelude.{codes, if◌then◌else◌}
+use Rattle.std.specs.Prelude.{codes, is_some, Bool, false, if◌then◌else◌}
 use Rattle.net_names.specs.Folding.{folded_bytes}
 use Rattle.text_table.specs.Texts.{has_text}
 use Rattle.spice_cards.specs.Cards.{Card, cards_of, early_more}
 use Rattle.spice_cards.specs.Parts.{Param, params_of}
 use Rattle.spice_cards.specs.Tokens.{Token, Word, Equals}
 use Rattle.spice_rows.specs.Names.{is_text}
-use Rattle.netlist_turn.specs.Words.{unquoted}
+use Rattle.netlist_turn.specs.Scale.{scale_of}
+use Rattle.netlist_turn.specs.Words.{is_option, unquoted}
 use Rattle.netlist_turn.specs.declared.fault.TurnFault.{TurnFault}
 use Rattle.netlist_turn.specs.declared.fault.TurnFault.TheVariants.{BadForm, EarlyMore, Twice, NoMemory}
+use Rattle.netlist_turn.specs.declared.fault.TurnFault.TheVariants.{BadScale, SecondScale}
 use Rattle.netlist_turn.specs.declared.settings.Settings.{Settings}
 use Rattle.netlist_run.specs.declared.params.Params.{Params}
 
--- names, folded, and the value of each
+-- names, folded, and the value of each, and the scale in 10^-15
 pub record Defined : Type 0 where
   pub names : List (List ℕ)
   pub values : List (List ℕ)
+  pub scale : Option ℕ
 
 -- a name is defined once
 abbrev pub with_param : Defined → ℕ → Param → Result Defined TurnFault
 with_param d line p =
     if has_text d.names (folded_bytes p.key) then Err (Twice line)
-    else Ok (record {
+    else Ok (record d {
       names = d.names ++ folded_bytes p.key ∷ [];
       values = d.values ++ unquoted p.value ∷ [];
     })
@@ -41,18 +44,45 @@ abbrev pub params_or : Defined → ℕ → Option (List Param) → Result Define
 params_or d line None = Err (BadForm line)
 params_or d line (Some ps) = with_params d line ps
 
+-- there is one scale
+abbrev pub scale_or : Defined → ℕ → Option ℕ → Result Defined TurnFault
+scale_or d line None = Err (BadScale line)
+scale_or d line (Some factor) = Ok (record d { scale = Some factor })
+
+abbrev pub with_scale : Defined → ℕ → List ℕ → Result Defined TurnFault
+with_scale d line text =
+    if is_some d.scale then Err (SecondScale line) else scale_or d line (scale_of text)
+
+-- what stands behind an `=`
+abbrev pub value_in : List Token → List ℕ
+value_in (Equals ∷ Word v ∷ ts) = unquoted v
+value_in ts = []
+
+abbrev pub is_scale : Token → Bool
+is_scale (Word w) = is_text (codes "SCALE") w
+is_scale Equals = false
+
+-- each SCALE of an option card
+abbrev pub with_scales : Defined → ℕ → List Token → Result Defined TurnFault
+with_scales d line [] = Ok d
+with_scales d line (t ∷ ts) =
+    if is_scale t then and_then (with_scale d line (value_in ts)) (λ next. with_scales next line ts)
+    else with_scales d line ts
+
 abbrev pub with_card : Defined → ℕ → List Token → Result Defined TurnFault
 with_card d line [] = Ok d
 with_card d line (Equals ∷ ts) = Ok d
 with_card d line (Word first ∷ ts) =
-    if is_text (codes ".PARAM") first then params_or d line (params_of ts) else Ok d
+    if is_text (codes ".PARAM") first then params_or d line (params_of ts)
+    else if is_option first then with_scales d line ts
+    else Ok d
 
 abbrev pub defining : Defined → List Card → Result Defined TurnFault
 defining d [] = Ok d
 defining d (c ∷ cs) = and_then (with_card d c.line c.tokens) (λ next. defining next cs)
 
 abbrev pub nothing : Defined
-nothing = record { names = []; values = [] }
+nothing = record { names = []; values = []; scale = None }
 
 abbrev pub early_or : Option ℕ → Result Defined TurnFault → Result Defined TurnFault
 early_or None rest = rest
@@ -64,10 +94,18 @@ defined bytes = early_or (early_more bytes) (defining nothing (cards_of bytes))
 
 -- what the code's records are
 abbrev pub params_seen : Params → Defined
-params_seen p = record { names = p.names; values = map (λ v. v.items) p.values.items }
+params_seen p = record {
+  names = p.names;
+  values = map (λ v. v.items) p.values.items;
+  scale = p.scale;
+}
 
 abbrev pub settings_seen : Settings → Defined
-settings_seen s = record { names = s.names; values = map (λ v. v.items) s.values.items }
+settings_seen s = record {
+  names = s.names;
+  values = map (λ v. v.items) s.values.items;
+  scale = s.scale;
+}
 
 -- the answer is this fault, or that there is no memory
 abbrev pub SaysFault : TurnFault → Result Defined TurnFault → Type 0

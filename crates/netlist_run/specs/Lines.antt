@@ -38,6 +38,9 @@ turn_line (turn.Shadowed line) = line
 turn_line (turn.EarlyMore line) = line
 turn_line (turn.Twice line) = line
 turn_line (turn.Resized line) = line
+turn_line (turn.BadScale line) = line
+turn_line (turn.SecondScale line) = line
+turn_line (turn.Unscaled line) = line
 turn_line turn.NoMemory = 0
 
 abbrev pub turn_text : TurnFault → List ℕ
@@ -47,6 +50,9 @@ turn_text (turn.Shadowed line) = codes "a circuit's parameter that .PARAM define
 turn_text (turn.EarlyMore line) = codes "a + with no card before it"
 turn_text (turn.Twice line) = codes "a second .PARAM of one name"
 turn_text (turn.Resized line) = codes "an option that changes sizes"
+turn_text (turn.BadScale line) = codes "a SCALE that is no number"
+turn_text (turn.SecondScale line) = codes "a second SCALE"
+turn_text (turn.Unscaled line) = codes "a size that the scale doesn't turn into one"
 turn_text turn.NoMemory = []
 
 -- the refusal of a card that can't be turned

@@ -1,7 +1,8 @@
 -- What is told of changes: a line for each card that is left out, then how often each other change
 -- was made.
 use Rattle.std.specs.Prelude.{ℕ, ◌+◌, ◌-◌, ◌^◌, ◌==◌, nat_lt, min, Bool, true, false, List, [], ◌∷◌}
-use Rattle.std.specs.Prelude.{◌++◌, length, slice_index, slice_set, codes, if◌then◌else◌}
+use Rattle.std.specs.Prelude.{◌++◌, length, slice_index, slice_set, codes, Option, Some, None}
+use Rattle.std.specs.Prelude.{if◌then◌else◌}
 use Rattle.std.specs.Fmt.{decimal}
 use Rattle.net_names.specs.Folding.{folded_bytes}
 use Rattle.text_table.specs.Texts.{place_of, with_text}
@@ -10,7 +11,8 @@ use Rattle.netlist_join.specs.declared.join.Origin.{Origin}
 use Rattle.netlist_turn.specs.Made.{Told}
 use Rattle.netlist_turn.specs.declared.made.Kind.{Kind}
 use Rattle.netlist_turn.specs.declared.made.Kind.TheVariants.{Card, Parameter, Slash, Params}
-use Rattle.netlist_turn.specs.declared.made.Kind.TheVariants.{Value, Quotes, Name}
+use Rattle.netlist_turn.specs.declared.made.Kind.TheVariants.{Value, Quotes, Name, Size}
+use Rattle.netlist_turn.specs.Scale.{micro_text}
 use Rattle.netlist_run.specs.Places.{place_text, origin_of}
 
 -- names, folded, in the order of their first sight, and how often each was seen
@@ -39,6 +41,7 @@ pub record Sums : Type 0 where
   pub cards : List ℕ
   pub parameters : Tally
   pub values : Tally
+  pub sizes : Tally
   pub slashes : ℕ
   pub params : ℕ
   pub quotes : ℕ
@@ -53,6 +56,7 @@ abbrev pub with_kind : List File → List Origin → Sums → Told → Kind → 
 with_kind files origins s t Card = record s { cards = s.cards ++ card_line files origins t }
 with_kind files origins s t Parameter = record s { parameters = seen_once s.parameters t.word }
 with_kind files origins s t Value = record s { values = seen_once s.values t.word }
+with_kind files origins s t Size = record s { sizes = seen_once s.sizes t.word }
 with_kind files origins s t Slash = record s { slashes = raised s.slashes }
 with_kind files origins s t Params = record s { params = raised s.params }
 with_kind files origins s t Quotes = record s { quotes = raised s.quotes }
@@ -71,6 +75,7 @@ no_sums = record {
   cards = [];
   parameters = no_names;
   values = no_names;
+  sizes = no_names;
   slashes = 0;
   params = 0;
   quotes = 0;
@@ -94,10 +99,16 @@ tally_text what (name ∷ names) (n ∷ ns) = name_line what name n ++ tally_tex
 abbrev pub count_text : List ℕ → ℕ → List ℕ
 count_text what n = if n == 0 then [] else what ++ number_text n
 
+-- the scale, where there is one
+abbrev pub scale_text : Option ℕ → List ℕ
+scale_text None = []
+scale_text (Some factor) = codes "scale " ++ (micro_text factor ++ codes "\n")
+
 abbrev pub names_text : Sums → List ℕ
 names_text s =
     tally_text (codes "parameter") s.parameters.names s.parameters.counts
-    ++ tally_text (codes "value") s.values.names s.values.counts
+    ++ (tally_text (codes "value") s.values.names s.values.counts
+    ++ tally_text (codes "scaled") s.sizes.names s.sizes.counts)
 
 -- so many comments at the ends of lines, and the others
 abbrev pub counts_text : ℕ → Sums → List ℕ
@@ -112,10 +123,10 @@ title_text true files =
     codes "left out " ++ (place_text files (record { file = 0; line = 1 }) ++ codes "title\n")
 title_text false files = []
 
--- all that is told of changes, of so many comments and of so many written cards
-abbrev pub told_text : Bool → List File → List Origin → ℕ → List Told → ℕ → List ℕ
-told_text has_title files origins comments told cards =
+-- all that is told of changes, of so many comments, of the scale and of so many written cards
+abbrev pub told_text : Bool → List File → List Origin → ℕ → Option ℕ → List Told → ℕ → List ℕ
+told_text has_title files origins comments scale told cards =
     title_text has_title files ++ ((sums_from files origins no_sums told).cards
-    ++ (names_text (sums_from files origins no_sums told)
+    ++ (scale_text scale ++ (names_text (sums_from files origins no_sums told)
     ++ (counts_text comments (sums_from files origins no_sums told)
-    ++ (codes "written " ++ (decimal cards ++ codes " cards\n")))))
+    ++ (codes "written " ++ (decimal cards ++ codes " cards\n"))))))

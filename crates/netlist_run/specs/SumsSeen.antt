@@ -11,6 +11,7 @@ seen s = record {
   cards = s.cards.items;
   parameters = tally_seen s.parameters;
   values = tally_seen s.values;
+  sizes = tally_seen s.sizes;
   slashes = s.slashes;
   params = s.params;
   quotes = s.quotes;

@@ -88,6 +88,9 @@ fn turn_line(fault: &TurnFault) -> u64
         TurnFault::EarlyMore(line) => *line,
         TurnFault::Twice(line) => *line,
         TurnFault::Resized(line) => *line,
+        TurnFault::BadScale(line) => *line,
+        TurnFault::SecondScale(line) => *line,
+        TurnFault::Unscaled(line) => *line,
         TurnFault::NoMemory => 0,
     }
 }
@@ -102,6 +105,9 @@ fn turn_text(fault: &TurnFault) -> &'static [u8]
         TurnFault::EarlyMore(_) => b"a + with no card before it",
         TurnFault::Twice(_) => b"a second .PARAM of one name",
         TurnFault::Resized(_) => b"an option that changes sizes",
+        TurnFault::BadScale(_) => b"a SCALE that is no number",
+        TurnFault::SecondScale(_) => b"a second SCALE",
+        TurnFault::Unscaled(_) => b"a size that the scale doesn't turn into one",
         TurnFault::NoMemory => b"",
     }
 }

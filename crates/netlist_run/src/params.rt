@@ -1,22 +1,24 @@
-//! The names that `.PARAM` cards define, and their values.
+//! The names that `.PARAM` cards define, and their values, and the scale that an option card sets.
 
 ghost use Rattle.std.specs.Prelude.{◌≡◌, ◌++◌, ◌∷◌, [], false, IfErr, OnOk, Ok};
 ghost use Rattle.text_table.specs.Texts.{has_text};
-ghost use Rattle.spice_cards.specs.Seen.{param_seen, params_seen as list_seen, tokens_seen};
+ghost use Rattle.spice_cards.specs.Seen.{param_seen, params_seen as list_seen, seen, tokens_seen};
 ghost use Rattle.spice_cards.specs.Parts.{params_of};
 ghost use Rattle.netlist_run.specs.Defined.{nothing, params_or, params_seen, SaysFault};
-ghost use Rattle.netlist_run.specs.Defined.{with_card, with_param, with_params};
+ghost use Rattle.netlist_run.specs.Defined.{value_in, with_card, with_param, with_params, with_scale};
+ghost use Rattle.netlist_run.specs.Defined.{is_scale, with_scales};
 
-use netlist_turn::{TurnFault, folded, is_param_word, unquoted};
+use netlist_turn::{TurnFault, folded, is_option, is_param_word, is_text, scale_of, unquoted};
 use spice_cards::{Param, Token, read_params};
 use std::alloc::{AllocError, Global};
 use text_table::TextTable;
 
-/// Names, folded, and the value of each.
+/// Names, folded, and the value of each, and the scale in 10^-15.
 #[derive(Drop)]
 pub struct Params {
     pub names: TextTable,
     pub values: Vec<Vec<u8>>,
+    pub scale: Option<u128>,
 }
 
 /// No names.
@@ -26,12 +28,13 @@ pub fn none(alloc: Global) -> Params
     Params {
         names: TextTable::new(alloc),
         values: Vec::new(alloc),
+        scale: None,
     }
 }
 
 fn push(alloc: Global, params: &mut Params, name: &[u8], value: &[u8]) -> Result<(), AllocError>
     requires { has_text params.old.names name.now ≡ false }
-    ensures { OnOk result (params_seen params.new ≡ record {
+    ensures { OnOk result (params_seen params.new ≡ record (params_seen params.old) {
       names = (params_seen params.old).names ++ name.now ∷ [];
       values = (params_seen params.old).values ++ value.now ∷ [];
     }) }
@@ -87,7 +90,61 @@ fn take_params(
     add_all(alloc, params, line, &found)
 }
 
-/// Takes a card: a `.PARAM` defines each of its parameters, which wasn't defined before.
+// Sets the scale, which wasn't set before.
+fn set_scale(params: &mut Params, line: u64, text: &[u8]) -> Result<(), TurnFault>
+    ensures made { OnOk result (with_scale (params_seen params.old) line text.now
+        ≡ Ok (params_seen params.new)) }
+    ensures fault { IfErr result (λ e. SaysFault e
+        (with_scale (params_seen params.old) line text.now)) }
+{
+    if params.scale.is_some() {
+        return Err(TurnFault::SecondScale(line));
+    }
+    let Some(factor) = scale_of(text) else {
+        return Err(TurnFault::BadScale(line));
+    };
+    params.scale = Some(factor);
+    Ok(())
+}
+
+// What stands behind an `=`.
+fn value_in<'a>(tokens: &[Token<'a>]) -> &'a [u8]
+    ensures { result.now ≡ value_in (tokens_seen tokens.now) }
+{
+    match tokens {
+        [Token::Equals, Token::Word(value), ..] => unquoted(value),
+        _ => b"",
+    }
+}
+
+fn is_scale(token: &Token) -> bool
+    ensures { result ≡ is_scale (seen token.now) }
+{
+    match token {
+        Token::Word(word) => is_text(word, b"SCALE"),
+        Token::Equals => false,
+    }
+}
+
+// Takes each scale of an option card.
+fn take_scales(params: &mut Params, line: u64, tokens: &[Token]) -> Result<(), TurnFault>
+    ensures made { OnOk result (with_scales (params_seen params.old) line (tokens_seen tokens.now)
+        ≡ Ok (params_seen params.new)) }
+    ensures fault { IfErr result (λ e. SaysFault e (with_scales (params_seen params.old) line
+        (tokens_seen tokens.now))) }
+{
+    let mut rest = tokens;
+    'tokens: while let [token, more @ ..] = rest {
+        if is_scale(token) {
+            set_scale(params, line, value_in(more))?;
+        }
+        rest = more;
+    }
+    Ok(())
+}
+
+/// Takes a card: a `.PARAM` defines each of its parameters, which wasn't defined before; an option
+/// card may set the scale, which wasn't set before.
 pub fn take(
     alloc: Global,
     params: &mut Params,
@@ -103,6 +160,9 @@ pub fn take(
         [Token::Word(first), behind @ ..] => {
             if is_param_word(first) {
                 return take_params(alloc, params, line, behind);
+            }
+            if is_option(first) {
+                return take_scales(params, line, behind);
             }
             Ok(())
         }

@@ -1,4 +1,4 @@
-//! The names that cards define, and the circuits' calls.
+//! The names that cards define, the scale that one sets, and the circuits' calls.
 
 ghost use Rattle.std.specs.Prelude.{◌≡◌, IfErr, IfOk};
 ghost use Rattle.std.specs.Option.{option_copied};
@@ -78,7 +78,11 @@ fn settled(
         all,
         is_found,
     } = kept_of(alloc, &circuits, top)?;
-    let Params { names, values } = params;
+    let Params {
+        names,
+        values,
+        scale,
+    } = params;
     let Circuits {
         names: circuits,
         calls: _,
@@ -93,11 +97,12 @@ fn settled(
         all,
         capacitors: leaving.capacitors,
         resistors: leaving.resistors,
+        scale,
     };
     Ok(Plan { settings, is_found })
 }
 
-/// What the cards of a text are turned by: the names that they define, and where there is a `top`,
+/// What the cards of a text are turned by: the names that they define, the scale, and where there is a `top`,
 /// just the circuit of that name and those that it calls, at once or through others, are kept; else
 /// all are. Linear in the text. The errors are the first card's that can't be taken.
 #[tactic(auto, using(crate::proofs::Plans::plan))]

@@ -55,11 +55,12 @@ fn finished(
     files: &[File],
     joined: &Joined,
     has_title: bool,
+    scale: Option<u128>,
     turned: Turned,
 ) -> Result<Output, AllocError>
     ensures text { IfOk result (λ o. o.text.items ≡ (seen turned.entry).text) }
     ensures lines { IfOk result (λ o. o.lines.items ≡ told_text has_title files.now
-        joined.now.origins.items joined.now.comments (seen turned.entry).told
+        joined.now.origins.items joined.now.comments scale (seen turned.entry).told
         (length (seen turned.entry).lines)) }
 {
     let told = turned.told.as_slice();
@@ -72,6 +73,7 @@ fn finished(
         files,
         origins,
         comments,
+        scale,
         told,
         cards.len(),
     )?;
@@ -106,11 +108,12 @@ fn tried(
     files: &[File],
     joined: &Joined,
     has_title: bool,
+    scale: Option<u128>,
     turned: Turned,
 ) -> Result<Output, Stop>
     ensures text { IfOk result (λ o. o.text.items ≡ (seen turned.entry).text) }
     ensures lines { IfOk result (λ o. o.lines.items ≡ told_text has_title files.now
-        joined.now.origins.items joined.now.comments (seen turned.entry).told
+        joined.now.origins.items joined.now.comments scale (seen turned.entry).told
         (length (seen turned.entry).lines)) }
     ensures accepted { IfOk result (λ o. IsAccepted (seen turned.entry).text) }
     ensures refused { IfErr result (NotRead files.now joined.now.origins.items
@@ -118,7 +121,7 @@ fn tried(
 {
     match try_text(alloc, turned.text.as_slice()) {
         Ok(()) => {
-            let output = finished(alloc, files, joined, has_title, turned)?;
+            let output = finished(alloc, files, joined, has_title, scale, turned)?;
             Ok(output)
         }
         Err(fault) => Err(read_stop(alloc, files, joined, &turned, fault)),
@@ -142,7 +145,14 @@ fn turned_output(
 {
     let origins = joined.origins.as_slice();
     match turn_cards(alloc, settings, joined.text.as_slice()) {
-        Ok(turned) => tried(alloc, files, joined, command.has_title, turned),
+        Ok(turned) => tried(
+            alloc,
+            files,
+            joined,
+            command.has_title,
+            settings.scale,
+            turned,
+        ),
         Err(fault) => Err(turn_stop(alloc, files, origins, fault)),
     }
 }

@@ -17,6 +17,7 @@ pub struct Sums {
     pub cards: Vec<u8>,
     pub parameters: Tally,
     pub values: Tally,
+    pub sizes: Tally,
     pub slashes: u64,
     pub params: u64,
     pub quotes: u64,
@@ -30,6 +31,7 @@ fn no_sums(alloc: Global) -> Sums
         cards: Vec::new(alloc),
         parameters: no_names(alloc),
         values: no_names(alloc),
+        sizes: no_names(alloc),
         slashes: 0,
         params: 0,
         quotes: 0,
@@ -67,6 +69,7 @@ fn take(
         Kind::Card => push_card(alloc, &mut sums.cards, files, origins, told),
         Kind::Parameter => see_once(alloc, &mut sums.parameters, told.word),
         Kind::Value => see_once(alloc, &mut sums.values, told.word),
+        Kind::Size => see_once(alloc, &mut sums.sizes, told.word),
         Kind::Slash => {
             sums.slashes = raised(sums.slashes);
             Ok(())

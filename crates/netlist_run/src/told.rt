@@ -4,13 +4,14 @@ ghost use Rattle.std.specs.Prelude.{◌≡◌, ◌++◌, OnOk, IfOk, codes, map}
 ghost use Rattle.std.specs.Fmt.{decimal};
 ghost use Rattle.netlist_turn.specs.Seen.{told_seen};
 ghost use Rattle.netlist_run.specs.SumsSeen.{seen};
-ghost use Rattle.netlist_run.specs.Sums.{counts_text, names_text, title_text, told_text};
+ghost use Rattle.netlist_run.specs.Sums.{counts_text, names_text, scale_text, title_text};
+ghost use Rattle.netlist_run.specs.Sums.{told_text};
 
 use crate::place::{push_number, push_place};
 use crate::sums::{Sums, sums_of};
 use crate::tally::{push_count, push_tally};
 use netlist_join::{File, Origin};
-use netlist_turn::Told;
+use netlist_turn::{Told, push_micros};
 use std::alloc::{AllocError, Global};
 
 fn push_title(
@@ -44,6 +45,17 @@ fn push_counts(
     push_count(alloc, out, b"backslashes", sums.names)
 }
 
+fn push_scale(alloc: Global, out: &mut Vec<u8>, scale: Option<u128>) -> Result<(), AllocError>
+    ensures { OnOk result (out.new.items ≡ out.old.items ++ scale_text scale) }
+{
+    let Some(factor) = scale else {
+        return Ok(());
+    };
+    out.extend_from_slice(b"scale ")?;
+    push_micros(alloc, out, factor)?;
+    out.extend_from_slice(b"\n")
+}
+
 fn push_written(alloc: Global, out: &mut Vec<u8>, cards: usize) -> Result<(), AllocError>
     ensures { OnOk result (out.new.items ≡ out.old.items ++ (codes "written "
         ++ (decimal cards ++ codes " cards\n"))) }
@@ -68,31 +80,36 @@ fn push_sums(
     push_counts(alloc, &mut counted, comments, &sums)?;
     push_tally(alloc, out, b"parameter", sums.parameters)?;
     push_tally(alloc, out, b"value", sums.values)?;
+    push_tally(alloc, out, b"scaled", sums.sizes)?;
     out.extend_from_slice(counted.as_slice())?;
     push_written(alloc, out, cards)
 }
 
-/// All that is told of these changes, of so many comments and of so many written cards: `left out PATH line L title`,
-/// where there is a title; `left out PATH line L WORD` for each card that is left out; then, where
-/// there are any, `parameter NAME N` for each name of parameters that are left out, `value NAME N`
-/// for each name whose value was put in, `comments N`, `slashes N`, `PARAMS: N`, `quotes N` and
-/// `backslashes N`; and `written N cards`. Linear in the changes.
+/// All that is told of these changes, of so many comments, of the scale and of so many written
+/// cards: `left out PATH line L title`, where there is a title; `left out PATH line L WORD` for each
+/// card that is left out; then, where there are any, `scale V` in micrometres, `parameter NAME N`
+/// for each name of parameters that are left out, `value NAME N` for each name whose value was put
+/// in, `scaled NAME N` for each name of sizes that the scale turned, `comments N`, `slashes N`,
+/// `PARAMS: N`, `quotes N` and `backslashes N`; and `written N cards`. Linear in the changes.
 pub fn told_lines(
     alloc: Global,
     has_title: bool,
     files: &[File],
     origins: &[Origin],
     comments: u64,
+    scale: Option<u128>,
     told: &[Told],
     cards: usize,
 ) -> Result<Vec<u8>, AllocError>
     ensures { IfOk result (λ text. text.items
-        ≡ told_text has_title files.now origins.now comments (map told_seen told.now) cards) }
+        ≡ told_text has_title files.now origins.now comments scale (map told_seen told.now)
+        cards) }
 {
     let sums = sums_of(alloc, files, origins, told)?;
     let mut out = Vec::new(alloc);
     push_title(alloc, &mut out, has_title, files)?;
     out.extend_from_slice(sums.cards.as_slice())?;
+    push_scale(alloc, &mut out, scale)?;
     push_sums(alloc, &mut out, comments, sums, cards)?;
     Ok(out)
 }

@@ -8,7 +8,8 @@ use Rattle.rect_sets.specs.Rects.{covers}
 use Rattle.cell_graph.specs.declared.cells.Place.{Place}
 use Rattle.cell_graph.specs.Linked.{Linked, cell_at, own_of}
 use Rattle.deep_laws.specs.Zones.{IsFromSibling}
-use Rattle.zone_phase.specs.Neighbours.{IsAlone, WhyHere}
+use Rattle.cell_context.specs.Arrays.{IsAlone}
+use Rattle.zone_phase.specs.Neighbours.{WhyHere}
 use Rattle.zone_phase.specs.Pulls.{Adds, AreCovering, IsSome, OnRectsIn, Why}
 use Rattle.zone_phase.proofs.Joining.{joined}
 

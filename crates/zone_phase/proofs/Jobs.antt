@@ -11,6 +11,7 @@ use Rattle.flat_layout.specs.Layout.{IsReached, IsDisturbed, Some_of}
 use Rattle.std.proofs.Math.Decide.{ℕ_discrete}
 use Rattle.cell_graph.specs.declared.cells.Place.{Place}
 use Rattle.cell_graph.specs.Linked.{Linked, IsSound, IsStep, plain, motion_at, hull_of, cell_at, places_at}
+use Rattle.cell_context.specs.Arrays.{IsAlone}
 use Rattle.cell_context.specs.Over.{IsOver, IsThrough}
 use Rattle.cell_context.proofs.Collecting.{one_place}
 use Rattle.deep_laws.proofs.Zones.{array_zones}
@@ -20,7 +21,7 @@ use Rattle.deep_tables.specs.Entries.{downward_cell}
 use Rattle.zone_phase.specs.declared.uses.Use.{Use}
 use Rattle.zone_phase.specs.declared.neighbours.Neighbour.{Neighbour}
 use Rattle.zone_phase.specs.Jobs.{zone_in, IsFromUses}
-use Rattle.zone_phase.specs.Neighbours.{AreAllNear, AreNeighbours, IsAlone, IsNeighbour, IsOverBy, WhyHere}
+use Rattle.zone_phase.specs.Neighbours.{AreAllNear, AreNeighbours, IsNeighbour, IsOverBy, WhyHere}
 use Rattle.zone_phase.specs.Pulls.{Why}
 use Rattle.zone_phase.specs.Uses.{AreUsesOf}
 use Rattle.zone_phase.proofs.Steps.{grown_up}

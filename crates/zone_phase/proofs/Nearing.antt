@@ -21,7 +21,7 @@ use Rattle.flat_laws.proofs.Squares.{same_square}
 use Rattle.cell_graph.specs.declared.cells.Place.{Place}
 use Rattle.cell_graph.specs.Linked.{Linked, IsSound, IsStep, cell_at, hull_of, motion_at, places_at, plain}
 use Rattle.cell_graph.proofs.Bridge.{hulls, reference_at}
-use Rattle.cell_context.specs.Arrays.{IsNearArray}
+use Rattle.cell_context.specs.Arrays.{IsAlone, IsNearArray}
 use Rattle.cell_context.specs.declared.arrays.Visit.{Visit}
 use Rattle.cell_context.specs.Over.{AreVisited, IsThrough, IsVisit}
 use Rattle.cell_context.specs.Visits.{IsVisited}
@@ -31,7 +31,7 @@ use Rattle.cell_context.proofs.Visiting.{some_last, some_more, wider}
 use Rattle.deep_tables.specs.Entries.{downward_cell}
 use Rattle.zone_phase.specs.declared.neighbours.Neighbour.{Neighbour}
 use Rattle.zone_phase.specs.declared.uses.Use.{Use}
-use Rattle.zone_phase.specs.Neighbours.{AreAllNear, AreNeighbours, BringsMore, IsAllNear, IsAlone, IsNeighbour, IsOverBy, IsPutOnce, IsSeenAs, LieAlike, LiesSo, Listed, StandAlike, StandsAgain, alone}
+use Rattle.zone_phase.specs.Neighbours.{AreAllNear, AreNeighbours, BringsMore, IsAllNear, IsNeighbour, IsOverBy, IsPutOnce, IsSeenAs, LieAlike, LiesSo, Listed, StandAlike, StandsAgain, alone}
 use Rattle.zone_phase.specs.Siblings.{IsBroughtTo}
 use Rattle.zone_phase.proofs.Around.{none_times}
 use Rattle.zone_phase.proofs.Using.{one_use}

@@ -13,7 +13,8 @@ use Rattle.cell_graph.specs.Linked.{Linked, IsSound, HullHas, cell_at, hull_of, 
 use Rattle.cell_graph.proofs.Bridge.{hulls}
 use Rattle.cell_context.proofs.Gathering.{over_flat}
 use Rattle.zone_phase.specs.declared.neighbours.Neighbour.{Neighbour}
-use Rattle.zone_phase.specs.Neighbours.{IsAlone, IsOverBy}
+use Rattle.cell_context.specs.Arrays.{IsAlone}
+use Rattle.zone_phase.specs.Neighbours.{IsOverBy}
 use Rattle.zone_phase.specs.Pulls.{Adds, OnRects}
 use Rattle.zone_phase.specs.Siblings.{Brings}
 

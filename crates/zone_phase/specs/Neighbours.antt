@@ -9,7 +9,7 @@ use Rattle.geo_base.specs.declared.shapes.Square.{Square}
 use Rattle.flat_layout.specs.Layout.{Some_of}
 use Rattle.cell_graph.specs.declared.cells.Place.{Place}
 use Rattle.cell_graph.specs.Linked.{Linked, cell_at, hull_of, own_of, places_at, motion_at}
-use Rattle.cell_context.specs.Arrays.{IsNearArray}
+use Rattle.cell_context.specs.Arrays.{IsAlone, IsNearArray}
 use Rattle.cell_context.specs.Over.{IsThrough}
 use Rattle.cell_context.specs.declared.arrays.Visit.{Visit}
 use Rattle.deep_tables.specs.Frames.{grown}
@@ -19,10 +19,6 @@ use Rattle.zone_phase.specs.declared.uses.Use.{Use}
 use Rattle.deep_laws.specs.Zones.{IsFromSibling}
 use Rattle.zone_phase.specs.Pulls.{OnRects}
 use Rattle.zone_phase.specs.Siblings.{IsBroughtTo}
-
--- the reference is of one placement
-abbrev pub IsAlone : Place → Type 0
-IsAlone p = (p.rows ≡ 1) × (p.columns ≡ 1)
 
 -- the element takes q onto the parent's own shapes; or, where it isn't by itself, onto what other
 -- references bring

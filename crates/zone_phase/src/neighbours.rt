@@ -6,14 +6,14 @@ ghost use Rattle.cell_graph.specs.Linked.{IsFrame, cell_at, hull_of, places_at};
 ghost use Rattle.deep_tables.specs.Entries.{downward_cell};
 ghost use Rattle.deep_tables.specs.Frames.{IsInGrown};
 ghost use Rattle.zone_phase.specs.Neighbours.{AreAllNear, AreNear, AreNeighbours, BringsMore};
-ghost use Rattle.zone_phase.specs.Neighbours.{IsAllNear, IsAlone, IsKnown, IsNearUse, IsPut};
+ghost use Rattle.zone_phase.specs.Neighbours.{IsAllNear, IsKnown, IsNearUse, IsPut};
 ghost use Rattle.zone_phase.specs.Neighbours.{IsRelative, Listed, StandAlike, StandsAgain, alone};
 ghost use Rattle.zone_phase.specs.Uses.{IsUse, IsUsed};
-ghost use Rattle.cell_context.specs.Arrays.{IsNearArray};
+ghost use Rattle.cell_context.specs.Arrays.{IsAlone, IsNearArray};
 
 use crate::uses::{Use, UsedCell};
 use crate::windows::element_rect;
-use cell_context::{Visit, grown, motion_at, visits};
+use cell_context::{Visit, grown, is_alone, motion_at, visits};
 use cell_graph::Place;
 use geo_base::{Motion, Point, Rect, Turn};
 use std::alloc::{AllocError, Global};
@@ -29,19 +29,12 @@ pub struct Neighbour {
 }
 
 /// Neighbours that lie differently, and the position of each by how it lies; and the position of a
-/// use by its job and how its placement stands.
+/// use by its job and how its placement stands. Where two lie by one number the later one counts.
 #[derive(Drop)]
 pub struct Neighbours {
     pub list: Vec<Neighbour>,
-    pub positions: HashMap<(u32, u8, i64, i64), usize>,
-    pub stood: HashMap<(u32, u8, i64, i64), usize>,
-}
-
-/// Whether a reference is of one placement.
-pub fn is_alone(place: &Place) -> bool
-    ensures { (result ≡ true) ↔ IsAlone place.now }
-{
-    place.rows == 1 && place.columns == 1
+    pub positions: HashMap<u64, usize>,
+    pub stood: HashMap<u64, usize>,
 }
 
 // The first motion as it is seen from where the other leads: followed by the other it is the first.
@@ -80,6 +73,22 @@ fn turn_number(turn: Turn) -> u8 {
     }
 }
 
+// A number and a further part as one number.
+fn mixed(number: u64, part: u64) -> u64 {
+    (number ^ part).wrapping_mul(0x9E37_79B9_7F4A_7C15)
+}
+
+// A number for how a placement lies, and for its cell or job. Where two have one number, each is
+// only looked for more often.
+fn way_of(cell_or_job: u32, motion: &Motion) -> u64 {
+    let turn = u64::from(turn_number(motion.turn));
+    let turned = mixed(mixed(1, u64::from(cell_or_job)), turn);
+    mixed(
+        mixed(turned, motion.dx.cast_unsigned()),
+        motion.dy.cast_unsigned(),
+    )
+}
+
 // Whether a neighbour is of the cell and lies so.
 fn is_alike(known: &Neighbour, cell: u32, relative: &Motion) -> bool
     ensures { result ≡ true → (known.now.other.cell ≡ cell) × (known.now.relative ≡ relative.now) }
@@ -104,8 +113,7 @@ fn lies_so(list: &[Neighbour], position: usize, cell: u32, relative: &Motion) ->
 fn is_known(memo: &Neighbours, cell: u32, relative: &Motion) -> bool
     ensures { result ≡ true → IsKnown memo.now.list.items cell relative.now }
 {
-    let key = (cell, turn_number(relative.turn), relative.dx, relative.dy);
-    match memo.positions.get(&key) {
+    match memo.positions.get(&way_of(cell, relative)) {
         None => false,
         Some(position) => lies_so(&memo.list, *position, cell, relative),
     }
@@ -123,9 +131,8 @@ fn push_neighbour(memo: &mut Neighbours, place: &Place, visit: &Visit) -> Result
     if is_known(memo, visit.cell, &lies) {
         return Ok(());
     }
-    let key = (visit.cell, turn_number(lies.turn), lies.dx, lies.dy);
     let position = memo.list.len();
-    memo.positions.insert(key, position)?;
+    memo.positions.insert(way_of(visit.cell, &lies), position)?;
     memo.list.push(Neighbour {
         place: *place,
         other: alone(visit.cell, visit.motion),
@@ -240,13 +247,12 @@ fn push_use(
     if !is_alone(place) {
         return Ok(());
     }
-    let motion = &place.motion;
-    let key = (found.job, turn_number(motion.turn), motion.dx, motion.dy);
-    let known = memo.stood.get(&key).copied();
+    let way = way_of(found.job, &place.motion);
+    let known = memo.stood.get(&way).copied();
     if is_again(used.uses, at, design.places(parent), place, known) {
         return Ok(());
     }
-    memo.stood.insert(key, at)?;
+    memo.stood.insert(way, at)?;
     push_around(alloc, memo, used, found, parent, place, grown)?;
     Ok(())
 }

@@ -5,14 +5,15 @@ ghost use Rattle.std.specs.List.{All};
 ghost use Rattle.geo_base.specs.Rects.{IsRect};
 ghost use Rattle.cell_graph.specs.Linked.{cell_at, own_of};
 ghost use Rattle.zone_phase.specs.Framed.{IsFramed, IsFramedReference};
-ghost use Rattle.zone_phase.specs.Neighbours.{IsAlone, WhyHere};
+ghost use Rattle.cell_context.specs.Arrays.{IsAlone};
+ghost use Rattle.zone_phase.specs.Neighbours.{WhyHere};
 ghost use Rattle.zone_phase.specs.Pulls.{Adds, Why};
 
 use crate::beside::{push_among, push_beside, push_own};
 use crate::frame::Frame;
-use crate::neighbours::is_alone;
 use crate::siblings::push_siblings;
 use crate::windows::windows;
+use cell_context::is_alone;
 use cell_graph::{Design, Place};
 use deep_tables::IndexedSet;
 use geo_base::{LayerKey, Rect};
