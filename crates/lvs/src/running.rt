@@ -12,9 +12,9 @@ use std::sync::Wait;
 use std::thread::Threads;
 use view_run::run_view;
 
-/// Runs the command of these words, the first of which is its name; the exit status. Standard output
-/// and files are as the contract of the command's run says: of `run_view` and `run_netlist`, lent
-/// the words behind the name, or of `run_lvs`, lent all.
+/// Runs the command of these words, the first of which is its name; the exit status. Standard
+/// output and files are as the contract of the command's run says: of `run_view` and `run_netlist`,
+/// lent the words behind the name, or of `run_lvs`, lent all.
 pub fn run_words<R: Threads + Wait + Sync, D: Depot, S: Sink>(
     rt: &R,
     alloc: Global,

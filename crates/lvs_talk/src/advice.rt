@@ -9,7 +9,7 @@ pub struct Advice {
     pub cure: &'static str,
 }
 
-static FILES: [Advice; 10] = [
+static FILES: [Advice; 8] = [
     Advice {
         key: "same",
         what: "a file that is written is named twice, or is read, too",
@@ -27,7 +27,7 @@ static FILES: [Advice; 10] = [
     },
     Advice {
         key: "view",
-        what: "something is 2^30 database units or more from its cell's origin, which KLayout can't read",
+        what: "something lies 2^30 database units from its cell's origin, too far for KLayout",
         cure: "place it nearer to the origin",
     },
     Advice {
@@ -42,23 +42,13 @@ static FILES: [Advice; 10] = [
     },
     Advice {
         key: "merge layout",
-        what: "by combine_devices alike transistors of this circuit of the layout would be too wide",
+        what: "alike transistors of the layout's circuit are too wide for one",
         cure: "leave the line combine_devices out",
     },
     Advice {
         key: "merge schematic",
-        what: "by combine_devices alike transistors of this circuit of the schematic would be too wide",
+        what: "alike transistors of the schematic's circuit are too wide for one",
         cure: "leave the line combine_devices out",
-    },
-    Advice {
-        key: "a second .PARAM of one name",
-        what: "a second .PARAM of one name",
-        cure: "leave one of the two out",
-    },
-    Advice {
-        key: "an option that changes sizes",
-        what: "an option that changes sizes",
-        cure: "write the sizes out, and leave the option away",
     },
 ];
 
@@ -192,7 +182,7 @@ static RULES: [Advice; 7] = [
     Advice {
         key: "rules 31",
         what: "the statement has another form",
-        cure: "one operator a line, a name of its own that begins with a small letter, no Ruby: c = a & b",
+        cure: "one operator a line: c = a & b; a name begins with a small letter; no Ruby",
     },
     Advice {
         key: "rules 32",
@@ -207,7 +197,7 @@ static RULES: [Advice; 7] = [
     Advice {
         key: "rules 34",
         what: "a layer that can't stand here",
-        cure: "texts stand for no shapes; a terminal's layer stands in a connect line: \"tG\" => poly",
+        cure: "texts are no shapes; a connect line names a terminal's layer: \"tG\" => poly",
     },
     Advice {
         key: "rules 35",
@@ -245,12 +235,12 @@ static CARDS: [Advice; 9] = [
     Advice {
         key: "schematic 50",
         what: "a card of another kind",
-        cure: "M, R, D and X cards are read; lvs netlist turns what netlisters write, a title by --title",
+        cure: "M, R, D, X are read; lvs netlist turns what netlisters write, a title by --title",
     },
     Advice {
         key: "schematic 51",
         what: "the card has another form",
-        cure: "M1 drain gate source bulk MODEL L=0.1U W=1U; lvs netlist turns comments behind cards",
+        cure: "M1 drain gate source bulk MODEL L=0.1U W=1U; no comments behind cards",
     },
     Advice {
         key: "schematic 52",
@@ -260,7 +250,7 @@ static CARDS: [Advice; 9] = [
     Advice {
         key: "schematic 53",
         what: "a size that can't be taken",
-        cure: "sizes are plain numbers in metres: W=1U is one micrometre; lvs netlist puts .PARAM in",
+        cure: "sizes are numbers in metres: W=1U is one micrometre; lvs netlist puts .PARAM in",
     },
     Advice {
         key: "schematic 54",
@@ -269,7 +259,7 @@ static CARDS: [Advice; 9] = [
     },
 ];
 
-static TURNED: [Advice; 10] = [
+static TURNED: [Advice; 15] = [
     Advice {
         key: "names a file that isn't there",
         what: "a file is taken in that isn't there",
@@ -308,7 +298,7 @@ static TURNED: [Advice; 10] = [
     Advice {
         key: "the card has another form",
         what: "the card has another form",
-        cure: "M1 drain gate source bulk MODEL L=0.1U W=1U; X1 nets CIRCUIT; a title goes by --title",
+        cure: "M1 drain gate source bulk MODEL L=0.1U W=1U; a title goes by --title",
     },
     Advice {
         key: "a circuit's parameter that .PARAM defines, too",
@@ -319,6 +309,31 @@ static TURNED: [Advice; 10] = [
         key: "a + with no card before it",
         what: "a + with no card before it",
         cure: "take the + away",
+    },
+    Advice {
+        key: "a second .PARAM of one name",
+        what: "a second .PARAM of one name",
+        cure: "leave one of the two out",
+    },
+    Advice {
+        key: "an option that changes sizes",
+        what: "an option that changes sizes",
+        cure: "write the sizes out, and leave the option away",
+    },
+    Advice {
+        key: "a SCALE that is no number",
+        what: "the option SCALE is no number",
+        cure: "write it as a plain number, as 1U",
+    },
+    Advice {
+        key: "a second SCALE",
+        what: "a second option SCALE",
+        cure: "leave one of the two out",
+    },
+    Advice {
+        key: "a size that the scale doesn't turn into one",
+        what: "a size that the option SCALE doesn't turn into one",
+        cure: "sizes times SCALE are whole femtometres",
     },
 ];
 

@@ -235,7 +235,7 @@ pub fn tell_match(out: &mut String, texts: &Texts<'_>) -> Result<(), AllocError>
 }
 
 const SCALE: &str =
-    "lvs: warning: the schematic's .OPTION SCALE was passed over: sizes count as they stand";
+    "lvs: warning: .OPTION SCALE was passed over; lvs netlist turns a schematic's sizes by it";
 
 /// Warns of what a comparison passes over in a schematic.
 pub fn warn_schematic(out: &mut String, schematic: &str) -> Result<(), AllocError> {

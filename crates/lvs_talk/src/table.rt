@@ -22,12 +22,14 @@ pub struct Choice {
 pub static COMMANDS: [Command; 8] = [
     Command {
         name: "run",
-        form: "run --layout P --rules P --schematic P --shapes P --netlist P --report P [--top NAME] [--workers N]",
+        form: "run --layout P --rules P --schematic P --shapes P --netlist P --report P \
+               [--top NAME] [--workers N]",
         text: "compares a layout with its schematic, and writes shapes, netlist and report",
     },
     Command {
         name: "view",
-        form: "view --layout P --rules P --schematic P --database P [--page P] [--top NAME] [--workers N]",
+        form: "view --layout P --rules P --schematic P --database P [--page P] \
+               [--top NAME] [--workers N]",
         text: "compares them for KLayout's netlist browser; the page says in words what differs",
     },
     Command {
