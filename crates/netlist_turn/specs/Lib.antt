@@ -1,5 +1,6 @@
 pub mod Words
 pub mod Scale
+pub mod ScaleLaw
 pub mod Made
 pub mod Turning
 pub mod Seen
