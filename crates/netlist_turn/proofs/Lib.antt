@@ -1,3 +1,2 @@
 pub mod TakenLemmas
 pub mod SizeLemmas
-pub mod ScaleText

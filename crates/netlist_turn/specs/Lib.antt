@@ -1,6 +1,5 @@
 pub mod Words
 pub mod Scale
-pub mod ScaleLaw
 pub mod Made
 pub mod Turning
 pub mod Seen
