@@ -1,4 +1,4 @@
-"""docs/FORMATS.md, lvs_netlist: what it turns, what it tells of that, and what it refuses; and that what the schematic's
+"""docs/FORMATS.md, lvs netlist: what it turns, what it tells of that, and what it refuses; and that what the schematic's
 refusals mark with an asterisk is read behind it."""
 import tools
 

@@ -14,8 +14,8 @@ import gds  # noqa: E402
 class Trials:
     """Runs the program in one folder, and counts what was tried and what differed."""
 
-    def __init__(self, program, turner, viewer, folder):
-        self.program, self.turner, self.viewer = program, turner, viewer
+    def __init__(self, program, teller, folder):
+        self.program, self.teller = program, teller
         self.folder, self.tried, self.differed = folder, 0, []
 
     def path(self, name):
@@ -39,12 +39,18 @@ class Trials:
         return self.call([*self.program, *words], out)
 
     def turn(self, *words):
-        """lvs_netlist: the exit status, and what it tells."""
-        return self.call([self.turner, *words])
+        """lvs netlist: the exit status, and what it tells."""
+        return self.call([self.teller, "netlist", *words])
 
     def show(self, *words):
-        """lvs_view: the exit status, and the line."""
-        return self.call([self.viewer, *words])
+        """lvs view: the exit status, and the line."""
+        return self.call([self.teller, "view", *words])
+
+    def told(self, *words, out=subprocess.PIPE):
+        """lvs: the exit status, the line, and what it tells people on standard error."""
+        done = subprocess.run([self.teller, *words], cwd=self.folder, stdout=out, stderr=subprocess.PIPE)
+        line = (done.stdout or b"").decode("latin-1").rstrip("\n")
+        return done.returncode, line, done.stderr.decode("latin-1")
 
     def compare(self, layout, rules, schematic):
         """A run on these files: the exit status, the line, and the report without its tables of a match."""

@@ -1,7 +1,7 @@
 #!/usr/bin/env python3
-"""Databases as KLayout reads them: bench/view/compare.py LVS_VIEW LVS [--designs COUNT SEED] [--planted] [--keep DIR]
+"""Databases as KLayout reads them: bench/view/compare.py LVS LVS_MAIN [--designs COUNT SEED] [--planted] [--keep DIR]
 
-Wants KLayout (apt-get install klayout). LVS writes the netlist and the report of each case, LVS_VIEW its database, KLayout reads the
+Wants KLayout (apt-get install klayout). LVS_MAIN writes the netlist and the report of each case, LVS its database by `view`, KLayout reads the
 database, and what it read must be the netlist's circuits, nets, pins, devices and calls, the schematic's too, and the report's partners;
 the page must have a line for each node that isn't its partner's like, and no other node's.
 Of small layouts the boxes of the circuits, the places of calls, the rectangles of each net with all calls below and the regions of the
@@ -44,7 +44,7 @@ def get(prefix, *ends):
 
 
 def run(program, words):
-    return subprocess.run([program] + words, stdout=subprocess.PIPE, stderr=subprocess.STDOUT)
+    return subprocess.run([program] + words, stdout=subprocess.PIPE, stderr=subprocess.DEVNULL)
 
 
 def cases(lvs, folder):
@@ -332,7 +332,7 @@ def read_all(folder, databases):
     names = os.path.join(folder, "databases")
     put(names, {"list": "\n".join(databases).encode() + b"\n"})
     out = subprocess.run(["klayout", "-b", "-r", os.path.join(HERE, "read_back.rb"), "-rd", "list=" + names + ".list"],
-                         stdout=subprocess.PIPE, stderr=subprocess.STDOUT)
+                         stdout=subprocess.PIPE, stderr=subprocess.DEVNULL)
     return read_text(out.stdout.decode("utf-8", "replace"))
 
 
@@ -341,7 +341,7 @@ def make(view, lvs, prefix, case):
     put(prefix, dict(case.files, gds=positive(case.files["gds"])))
     inputs = ["--layout", prefix + ".gds", "--rules", prefix + ".lvs", "--schematic", prefix + ".cir"] + (["--top", case.top] if case.top else [])
     told = run(lvs, ["run"] + inputs + ["--shapes", prefix + ".out", "--netlist", prefix + ".net", "--report", prefix + ".rep"])
-    seen = run(view, inputs + ["--database", prefix + ".lvsdb", "--page", prefix + ".page"])
+    seen = run(view, ["view"] + inputs + ["--database", prefix + ".lvsdb", "--page", prefix + ".page"])
     if told.returncode == 2 and seen.returncode == 2 and told.stdout == seen.stdout:
         return None
     if told.returncode in (0, 1, 3) and seen.stdout == b"refused view\n" and case.small and wanted.is_far(case.files["gds"], case.top):

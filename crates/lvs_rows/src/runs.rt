@@ -115,7 +115,7 @@ fn put<R: Files>(
     }
 }
 
-/// Runs the words over the files of the rows' folder: those of `lvs_netlist` where `netlist` stands
+/// Runs the words over the files of the rows' folder: those of `lvs netlist` where `netlist` stands
 /// before them.
 pub fn run_in_folder<R: Files + AllocGlobal + Threads + Wait + Sync>(
     rt: &R,

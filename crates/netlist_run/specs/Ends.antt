@@ -47,8 +47,8 @@ abbrev pub WrotePart : Store → Store → List ℕ → List ℕ → Type 0
 WrotePart old new path text = NoneWritten (counted old) (counted new)
     ⊎ PartWritten (counted old) (counted new) path text
 
--- what is asked for was written, no other file has changed, no path was answered to have no file, and
--- the lines were sent
+-- what is asked for was written, no other file has changed, no path was answered to have no file,
+-- and the lines were sent
 pub record Writes (o : Option Asked) (old new : Store) (before after : SinkState) : Type 0 where
   pub path : List ℕ
   pub text : List ℕ

@@ -5,8 +5,8 @@ ghost use Rattle.text_table.specs.Texts.{has_text};
 ghost use Rattle.spice_cards.specs.Seen.{param_seen, params_seen as list_seen, seen, tokens_seen};
 ghost use Rattle.spice_cards.specs.Parts.{params_of};
 ghost use Rattle.netlist_run.specs.Defined.{nothing, params_or, params_seen, SaysFault};
-ghost use Rattle.netlist_run.specs.Defined.{value_in, with_card, with_param, with_params, with_scale};
-ghost use Rattle.netlist_run.specs.Defined.{is_scale, with_scales};
+ghost use Rattle.netlist_run.specs.Defined.{is_scale, value_in, with_card, with_param, with_params};
+ghost use Rattle.netlist_run.specs.Defined.{with_scale, with_scales};
 
 use netlist_turn::{TurnFault, folded, is_option, is_param_word, is_text, scale_of, unquoted};
 use spice_cards::{Param, Token, read_params};

@@ -102,9 +102,9 @@ fn settled(
     Ok(Plan { settings, is_found })
 }
 
-/// What the cards of a text are turned by: the names that they define, the scale, and where there is a `top`,
-/// just the circuit of that name and those that it calls, at once or through others, are kept; else
-/// all are. Linear in the text. The errors are the first card's that can't be taken.
+/// What the cards of a text are turned by: the names that they define, the scale, and where there is
+/// a `top`, just the circuit of that name and those that it calls, at once or through others, are
+/// kept; else all are. Linear in the text. The errors are the first card's that can't be taken.
 #[tactic(auto, using(crate::proofs::Plans::plan))]
 pub fn plan_cards(
     alloc: Global,

@@ -74,7 +74,8 @@ fn push_sums(
     cards: usize,
 ) -> Result<(), AllocError>
     ensures { OnOk result (out.new.items ≡ out.old.items ++ (names_text (seen sums)
-        ++ (counts_text comments (seen sums) ++ (codes "written " ++ (decimal cards ++ codes " cards\n"))))) }
+        ++ (counts_text comments (seen sums)
+        ++ (codes "written " ++ (decimal cards ++ codes " cards\n"))))) }
 {
     let mut counted = Vec::new(alloc);
     push_counts(alloc, &mut counted, comments, &sums)?;
@@ -86,8 +87,8 @@ fn push_sums(
 }
 
 /// All that is told of these changes, of so many comments, of the scale and of so many written
-/// cards: `left out PATH line L title`, where there is a title; `left out PATH line L WORD` for each
-/// card that is left out; then, where there are any, `scale V` in micrometres, `parameter NAME N`
+/// cards: `left out PATH line L title`, where there is a title; `left out PATH line L WORD` for
+/// each card that is left out; then, where there are any, `scale V` in micrometres, `parameter NAME N`
 /// for each name of parameters that are left out, `value NAME N` for each name whose value was put
 /// in, `scaled NAME N` for each name of sizes that the scale turned, `comments N`, `slashes N`,
 /// `PARAMS: N`, `quotes N` and `backslashes N`; and `written N cards`. Linear in the changes.

@@ -203,7 +203,8 @@ impl<'a> Turned<'a> {
         param: &Param<'a>,
     ) -> Result<(), AllocError>
         ensures { OnOk result
-            (seen self.new ≡ value_made settings.now row (seen self.old) line (param_seen param.now)) }
+            (seen self.new ≡ value_made settings.now row (seen self.old) line
+            (param_seen param.now)) }
     {
         let plain = unquoted(param.value);
         self.unquote(line, param.value, plain)?;
@@ -223,7 +224,8 @@ impl<'a> Turned<'a> {
         param: &Param<'a>,
     ) -> Result<(), AllocError>
         ensures { OnOk result
-            (seen self.new ≡ param_made settings.now row (seen self.old) line (param_seen param.now)) }
+            (seen self.new ≡ param_made settings.now row (seen self.old) line
+            (param_seen param.now)) }
     {
         if !is_kept_key(settings.scale.is_some(), row, param.key) {
             return self.tell(line, Kind::Parameter, param.key);

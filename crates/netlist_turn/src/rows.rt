@@ -186,8 +186,8 @@ fn is_edge_key(key: &[u8]) -> bool
     is_text(key, b"AS") || is_text(key, b"AD") || is_text(key, b"PS") || is_text(key, b"PD")
 }
 
-/// Whether a parameter of this name says something, or is passed over by the profile's reader; where
-/// there is a scale, not areas and perimeters, which it changes.
+/// Whether a parameter of this name says something, or is passed over by the profile's reader;
+/// where there is a scale, not areas and perimeters, which it changes.
 pub fn is_kept_key(has_scale: bool, row: Row, key: &[u8]) -> bool
     ensures { result ≡ is_kept_key has_scale row key.now }
 {

@@ -20,8 +20,8 @@ fn number(text: &[u8]) -> Result<u128, ValueFault>
     parse_area(text)
 }
 
-/// The factor that a text writes, in 10^-15; none where it is no whole number of these, above 1,000,
-/// or 0.
+/// The factor that a text writes, in 10^-15; none where it is no whole number of these, above
+/// 1,000, or 0.
 pub fn scale_of(text: &[u8]) -> Option<u128>
     ensures { result ≡ scale_of text.now }
 {

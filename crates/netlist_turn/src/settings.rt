@@ -5,8 +5,8 @@ ghost use Rattle.spice_cards.specs.Seen.{param_seen, params_seen, words_seen};
 ghost use Rattle.net_names.specs.Folding.{folded_bytes};
 ghost use Rattle.text_table.specs.Texts.{place_of};
 ghost use Rattle.std.specs.Option.{option_copied};
-ghost use Rattle.netlist_turn.specs.Made.{factor_at, has_shadow, has_stuck, is_left, is_stuck, meant};
-ghost use Rattle.netlist_turn.specs.Made.{value_for};
+ghost use Rattle.netlist_turn.specs.Made.{factor_at, has_shadow, has_stuck, is_left, is_stuck};
+ghost use Rattle.netlist_turn.specs.Made.{meant, value_for};
 ghost use Rattle.netlist_turn.specs.Words.{unquoted};
 
 use crate::rows::{Row, is_size_key};

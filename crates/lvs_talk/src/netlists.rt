@@ -1,0 +1,141 @@
+//! Names in netlists.
+
+use crate::words::word_at;
+use indexmap::IndexSet;
+use std::alloc::{AllocError, Global};
+
+// Whether a card of a written netlist is that of a device.
+fn is_device(card: &str) -> bool {
+    matches!(card.as_bytes(), [b'M' | b'R' | b'D', ..])
+}
+
+/// Whether a written netlist has no device.
+pub fn has_no_device(netlist: &str) -> bool {
+    for line in netlist.lines() {
+        if is_device(line) {
+            return false;
+        }
+    }
+    true
+}
+
+/// The name of the last circuit of a netlist, as its card spells it.
+pub fn last_circuit(netlist: &str) -> Option<&str> {
+    let (_, circuit) = netlist
+        .rsplit_once(".SUBCKT ")
+        .or(netlist.rsplit_once(".subckt "))?;
+    Some(word_at(circuit, 0))
+}
+
+fn is_scale(line: &str) -> bool {
+    for word in line.split_whitespace() {
+        if let Some((name, _)) = word.split_once('=') {
+            if name.eq_ignore_ascii_case("SCALE") {
+                return true;
+            }
+        }
+    }
+    false
+}
+
+/// Whether an option of a schematic changes sizes, which a run reads as they stand.
+pub fn has_scale(schematic: &str) -> bool {
+    for line in schematic.lines() {
+        let card = word_at(line, 0);
+        let is_option = card.eq_ignore_ascii_case(".OPTION")
+            || card.eq_ignore_ascii_case(".OPTIONS");
+        if is_option && is_scale(line) {
+            return true;
+        }
+    }
+    false
+}
+
+/// How many circuits a written netlist has, and one more.
+pub fn part_count(netlist: &str) -> usize {
+    netlist.split(".SUBCKT ").count()
+}
+
+// The circuit of a name in a written netlist: its name and pins, and its cards.
+fn circuit_of<'a>(netlist: &'a str, name: &str) -> &'a str {
+    for circuit in netlist.split(".SUBCKT ") {
+        if word_at(circuit, 0) == name {
+            return circuit;
+        }
+    }
+    ""
+}
+
+// How many words behind a card's first are nets.
+fn net_count(card: &str) -> usize {
+    match card.as_bytes() {
+        [b'M', ..] => 4,
+        [b'R', ..] => 3,
+        [b'D', ..] => 2,
+        [b'X', ..] => card.split_whitespace().count().saturating_sub(2),
+        _ => 0,
+    }
+}
+
+// Adds the first nets behind a line's first word.
+fn add_nets<'a>(
+    nets: &mut IndexSet<&'a str>,
+    line: &'a str,
+    count: usize,
+) -> Result<(), AllocError> {
+    for net in line.split_whitespace().skip(1).take(count) {
+        nets.insert(net)?;
+    }
+    Ok(())
+}
+
+// Adds the nets of a circuit, pins first, then as the cards first name them.
+fn add_all<'a>(nets: &mut IndexSet<&'a str>, circuit: &'a str) -> Result<(), AllocError> {
+    add_nets(nets, circuit.lines().next().unwrap_or(""), usize::MAX)?;
+    for card in circuit.lines().skip(1) {
+        add_nets(nets, card, net_count(card))?;
+    }
+    Ok(())
+}
+
+// The net of this number, from 0; nothing where there is none, or no memory.
+fn net_at<'a>(alloc: Global, circuit: &'a str, number: usize) -> &'a str {
+    let mut nets = IndexSet::new(alloc);
+    if add_all(&mut nets, circuit).is_err() {
+        return "";
+    }
+    nets.get_index(number).copied().unwrap_or("")
+}
+
+// The card of a device or of a call of this number, from 0; nothing where there is none.
+fn card_at<'a>(circuit: &'a str, kind: &str, number: usize) -> &'a str {
+    let mut left = number;
+    for card in circuit.lines().skip(1) {
+        let is_call = card.starts_with('X');
+        if (kind == "call" && is_call) || (kind == "device" && is_device(card)) {
+            if left == 0 {
+                return card;
+            }
+            left = left.saturating_sub(1);
+        }
+    }
+    ""
+}
+
+/// What is called so and has this number, from 1, in a circuit of a written netlist: a net's name,
+/// or the card of a device or of a call; nothing where there is none. Linear in the netlist.
+pub fn named<'a>(
+    alloc: Global,
+    netlist: &'a str,
+    name: &str,
+    kind: &str,
+    number: usize,
+) -> &'a str {
+    let circuit = circuit_of(netlist, name);
+    let place = number.saturating_sub(1);
+    if kind == "net" {
+        net_at(alloc, circuit, place)
+    } else {
+        card_at(circuit, kind, place)
+    }
+}
