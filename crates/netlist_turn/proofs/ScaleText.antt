@@ -73,7 +73,7 @@ record IsNine (r : ℕ) (ds : List ℕ) : Type 0 where
   worth : digits_value 10 ds ≡ r
 
 -- a number of ten digits has ten
-nine_or : (k v : ℕ) → v < 10 ^ (1 + k) → 10 ^ 9 ≤ v → 1 + k ≤ 10 → k ≡ 9
+nine_or : (k v : ℕ) → v < 10 ^ suc k → 10 ^ 9 ≤ v → k ≤ 9 → k ≡ 9
 nine_or zero v h low l = absurd (omega (arith, h, low))
 nine_or (suc zero) v h low l = absurd (omega (arith, h, low))
 nine_or (suc (suc zero)) v h low l = absurd (omega (arith, h, low))

@@ -3,4 +3,5 @@ pub mod Scale
 pub mod ScaleLaw
 pub mod Made
 pub mod Turning
+pub mod CardLaw
 pub mod Seen
