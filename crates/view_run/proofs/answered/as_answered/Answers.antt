@@ -11,10 +11,7 @@ merged-requires-clause-right c = ((rw c.in-Some.is at c.requires.narrow) c.if-fo
 
 pub returns-then-found-clause-shown : goal.returns-then-found-clause-shown
 returns-then-found-clause-shown c =
-    shown_again c.args.compared c.in-Some.found c.in_ok-again.again.compared c.args.picture c.in_ok-again.again.picture c.in-Some.is c.if-found.true c.in_ok-again.ensures.shown
-
-pub returns-in-Some-clause-shown : goal.returns-in-Some-clause-shown
-returns-in-Some-clause-shown c = AsAligned (ap again_in c.in-Some.is ∙ c.if-found.false) (sym c.in-Some.is) refl
+    shown_again c.args.compared c.in-Some.found c.in_ok-again-in-Some.again.compared c.args.picture c.in_ok-again-in-Some.again.picture c.in-Some.is c.if-found.true c.in_ok-again-in-Some.ensures.shown
 
 pub returns-in-None-clause-shown : goal.returns-in-None-clause-shown
 returns-in-None-clause-shown c = AsAligned (ap again_in c.in-None.is) (sym c.in-None.is) refl
