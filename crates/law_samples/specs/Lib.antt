@@ -7,3 +7,4 @@ pub mod Expansion
 pub mod Refused
 pub mod Matched
 pub mod Combined
+pub mod Kinds
