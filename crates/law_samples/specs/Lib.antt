@@ -8,3 +8,4 @@ pub mod Refused
 pub mod Matched
 pub mod Combined
 pub mod Kinds
+pub mod Taken

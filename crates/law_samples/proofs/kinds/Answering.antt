@@ -1,13 +1,17 @@
 -- The rounds of the pair with equal names leave single classes; those of the other one begin with unequal counts.
-use Rattle.std.proofs.Common.{◌≡◌, inl, inr, ℕ, zero, suc, ◌≤◌, List, [], ◌∷◌, refl, sym, ◌∙◌, ap, subst, arith}
-use Rattle.std.specs.Prelude.{slice_index}
+use Rattle.std.proofs.Common.{◌≡◌, inl, inr, ℕ, ◌==◌, ◌&&◌, ◌||◌, Bool, zero, suc, ◌≤◌, true, false, List, [], ◌∷◌, refl, sym, ◌∙◌, ap, subst, arith}
+use Rattle.std.specs.Prelude.{slice_index, slice_index_or}
+use Rattle.std.proofs.lemmas.Bool.{cases_Bool}
+use Rattle.std.proofs.lemmas.Bool.Decides.{Decides-eqb}
 use Rattle.std.proofs.lemmas.Option.{none-some}
 use Rattle.law_samples.proofs.chain.Answering.{fits_by, numbers_by}
 use Rattle.law_samples.proofs.latch.Checks.{even_by, Holds, left_by, right_by, single_left, single_right, stable_by, started, went_on}
 use Rattle.law_samples.specs.Kinds.{alike, NamedMatchLaw, OtherPinLaw, pairing, unlike}
+use Rattle.law_samples.specs.Taken.{far, near, TakenApartLaw}
+use Rattle.pair_turns.specs.Going.{AreGoing, goes}
 use Rattle.match_laws.proofs.Answer.{matched, uneven_differs}
 use Rattle.match_laws.proofs.Images.{web_good}
-use Rattle.match_laws.specs.Answer.{Answer, equal_names, IsAnswer, IsDifference, IsPairing, Match}
+use Rattle.match_laws.specs.Answer.{Answer, DiffersInRound, equal_names, IsAnswer, IsDifference, IsPairing, Match, Skipped}
 use Rattle.match_laws.specs.Circuits.{IsFitting, node, numbers_of, Pairing, web_of}
 use Rattle.round_laws.proofs.Agree.{under_web}
 use Rattle.round_laws.specs.Nodes.{Call, Device, Layout, Net, Node, Schematic, Side}
@@ -104,3 +108,21 @@ pub other_pin : OtherPinLaw
 other_pin a h =
     let d = uneven_differs unlike (equal_names unlike) 0 a pin h uneven in
     subst IsDifference (sym d.3) tt
+
+-- ---- taken apart
+
+pub taken_apart : TakenApartLaw
+taken_apart a h =
+    let d = uneven_differs unlike (equal_names unlike) 0 a pin h uneven in
+    subst (λ (x : Answer). AreGoing near far (x ∷ Skipped 0 ∷ []) (true ∷ false ∷ [])) (sym d.3) (record { long = refl; each = each d.0 d.1 d.2 })
+  where
+    later : (k : ℕ) → (suc (suc k) == 0) ≡ false
+    later k = elim (cases_Bool (suc (suc k) == 0)) [
+      | inl e ↦ let z = (Decides-eqb (suc (suc k)) 0).0 e in absurd (omega (arith, z))
+      | inr e ↦ e
+    ]
+
+    each : (x : Node) (m n k : ℕ) → slice_index_or (true ∷ false ∷ []) k false ≡ goes near far (DiffersInRound 0 x m n ∷ Skipped 0 ∷ []) k
+    each x m n zero = refl
+    each x m n (suc zero) = refl
+    each x m n (suc (suc k)) = sym (ap (λ (b : Bool). (b && true) || false) (later k))
