@@ -57,4 +57,4 @@ def try_all(trials):
     trials.put("in.cir", CARD + "\n")
     trials.expect("an input twice", (2, "refused same"), trials.turn("in.cir", "in.cir", "--out", "turned.cir"))
     trials.expect("the input as output", (2, "refused same"), trials.turn("in.cir", "--out", "in.cir"))
-    trials.expect("words", (2, "refused words"), trials.turn("--help"))
+    trials.expect("words", (2, "refused words"), trials.turn("--titel"))

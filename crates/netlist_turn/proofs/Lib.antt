@@ -1,2 +1,4 @@
 pub mod TakenLemmas
 pub mod SizeLemmas
+pub mod ScaleText
+pub mod CardText

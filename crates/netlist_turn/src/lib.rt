@@ -2,6 +2,7 @@
 #![tactic(auto)]
 
 mod fault;
+mod laws;
 mod made;
 mod rows;
 mod scale;
@@ -10,6 +11,7 @@ mod turn;
 mod words;
 
 pub use fault::TurnFault;
+pub use laws::{card_laws, scale_laws};
 pub use made::{Kind, Told, Turned, Where};
 pub use rows::{Row, is_option, is_param_word, row_of};
 pub use scale::{push_micros, scale_of};

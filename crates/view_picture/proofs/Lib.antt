@@ -2,4 +2,4 @@ pub mod Picturing
 pub mod Parting
 pub mod Joining
 pub mod Listed
-pub mod Answered
+pub mod Placed

@@ -7,4 +7,4 @@ pub mod Ordering
 pub mod Pictured
 pub mod Preparing
 pub mod Shown
-pub mod Answered
+pub mod Again

@@ -1,4 +1,4 @@
-use Rattle.std.proofs.Common.{◌≡◌, ◌∷◌, ◌-◌, List, ap, drop, length, map, subst, sym, take}
+use Rattle.std.proofs.Common.{◌≡◌, ◌∷◌, ◌-◌, List, ap, arith, drop, length, map, subst, sym, take}
 use Rattle.std.proofs.lemmas.List.Elements.{All-head, All-same, All-tail}
 use Rattle.net_model.specs.Rows.{plain_circuit}
 use Rattle.plain_netlist.specs.Netlist.{Circuit}
@@ -6,7 +6,7 @@ use Rattle.view_drawing.proofs.Placing.{front, nil_of}
 use Rattle.view_netlist.specs.Drawing.{Drawn, IsSmallDrawing, plain_drawing}
 use Rattle.view_netlist.specs.declared.drawing.Drawing.{Drawing}
 use Rattle.view_picture.specs.Picture.{plain_drawings}
-use Rattle.view_picture.proofs.Answered.{PlacesOn, no_drawing, no_left, no_other, places_next}
+use Rattle.view_picture.proofs.Placed.{PlacesOn, no_drawing, no_left, no_other, places_next}
 use Rattle.view_picture.proofs.answered.place_all.Goals as goal
 
 pub place-requires : goal.place-requires
@@ -47,3 +47,10 @@ pub returns-in_default-others-clause-placed : goal.returns-in_default-others-cla
 returns-in_default-others-clause-placed c =
     no_other (map plain_circuit c.drawings.others.now) (map plain_circuit c.drawings.rest.now) (plain_drawings c.drawings.drawing-iterator.rest.items) (plain_drawings c.drawings.out.items)
     (map plain_circuit c.args.answered.now) (map plain_circuit c.args.lefts.now) (plain_drawings c.args.drawings.items) (nil_of plain_circuit c.drawings.others.now c.in_default-others.len_below) c.drawings.invariant.0
+
+pub returns-clause-placed : goal.returns-clause-placed
+returns-clause-placed c =
+    let long = c.drawings.drawing-iterator.rest.ok.0 in
+    let none = c.in-None.ensures.steps.0 in
+    no_drawing (map plain_circuit c.drawings.others.now) (map plain_circuit c.drawings.rest.now) (plain_drawings c.drawings.drawing-iterator.rest.items) (plain_drawings c.drawings.out.items)
+    (map plain_circuit c.args.answered.now) (map plain_circuit c.args.lefts.now) (plain_drawings c.args.drawings.items) (nil_of plain_drawing c.drawings.drawing-iterator.rest.items (omega (arith, long, none))) c.drawings.invariant.0

@@ -2,7 +2,7 @@ use Rattle.std.proofs.Common.{map}
 use Rattle.net_model.specs.Rows.{plain_circuit}
 use Rattle.view_netlist.specs.Drawing.{AreAllSmall}
 use Rattle.view_picture.specs.Picture.{plain_drawings}
-use Rattle.view_picture.proofs.Answered.{PlacesOn}
+use Rattle.view_picture.proofs.Placed.{PlacesOn}
 use Rattle.view_picture.proofs.answered.place_all.Given as goal
 
 abbrev pub invariant-drawings : goal.invariant-drawings

@@ -1,6 +1,6 @@
 use Rattle.std.proofs.Common.{◌∙◌, ap, refl, sym}
 use Rattle.view_run.specs.Views.{AsAligned, again_in}
-use Rattle.view_run.proofs.Answered.{shown_again}
+use Rattle.view_run.proofs.Again.{shown_again}
 use Rattle.view_run.proofs.answered.as_answered.Goals as goal
 
 pub merged-requires-clause-left : goal.merged-requires-clause-left

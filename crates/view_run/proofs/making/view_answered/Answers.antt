@@ -5,7 +5,7 @@ use Rattle.net_model.specs.Rows.{plain_netlist}
 use Rattle.pair_jobs.specs.Verdict.{IsRunVerdict}
 use Rattle.report_file.specs.File.{all_answers, pair_count}
 use Rattle.view_run.specs.Lines.{view_line}
-use Rattle.view_run.proofs.Answered.{ordered_shown, shown_answers, shown_count, shown_paired}
+use Rattle.view_run.proofs.Again.{ordered_shown, shown_answers, shown_count, shown_paired}
 use Rattle.view_run.proofs.making.view_answered.Goals as goal
 
 pub view_compared-requires-clause-paired : goal.view_compared-requires-clause-paired

@@ -22,7 +22,7 @@ use Rattle.view_run.specs.Sketched.{IsSketchOf}
 use Rattle.view_picture.specs.declared.pictures.Sketched.{Sketched}
 use Rattle.view_run.proofs.Pictured.{pictured}
 use Rattle.view_run.specs.Views.{ArePictured, AreShown, names_of}
-use Rattle.view_run.proofs.Answered.{narrow_compared}
+use Rattle.view_run.proofs.Again.{narrow_compared}
 use Rattle.view_run.proofs.Assembled.{far_aligned, is_view, line_as, layout_alignable, layout_ordered, not_drawn, not_made, schematic_alignable, top_of_both, top_there}
 use Rattle.view_run.proofs.Ordering.{shown_ordered}
 use Rattle.view_run.proofs.Shown.{all_paired, left_good}
