@@ -7,3 +7,5 @@ pub mod Expansion
 pub mod Refused
 pub mod Matched
 pub mod Combined
+pub mod Kinds
+pub mod Taken

@@ -1,0 +1,14 @@
+//! A resistor and a diode, and names that tell pins apart, carried through the premises of a match
+//! and of a difference.
+
+ghost use Rattle.law_samples.specs.Kinds.{NamedMatchLaw, OtherPinLaw};
+ghost use Rattle.law_samples.specs.Taken.{TakenApartLaw};
+
+/// Where names tell pins apart, the pair with equal names is a match, which is a correspondence; of
+/// the pair with another name each answer is a difference, and where it is called by the tops it is
+/// taken apart.
+pub fn named_kinds()
+    ensures matched { NamedMatchLaw }
+    ensures other { OtherPinLaw }
+    ensures taken { TakenApartLaw }
+{}
