@@ -14,6 +14,7 @@ use std::fs;
 use std::rt::Files;
 use std::sync::Wait;
 use std::thread::Threads;
+use view_run::run_view;
 
 // The words of a command over the files l, r, c, s, n and p.
 fn whole(command: &[u8]) -> Option<&'static [u8]> {
@@ -115,8 +116,8 @@ fn put<R: Files>(
     }
 }
 
-/// Runs the words over the files of the rows' folder: those of `lvs netlist` where `netlist` stands
-/// before them.
+/// Runs the words over the files of the rows' folder: those of `lvs netlist` or `lvs view` where
+/// `netlist` or `view` stands before them.
 pub fn run_in_folder<R: Files + AllocGlobal + Threads + Wait + Sync>(
     rt: &R,
     words: &[String],
@@ -127,6 +128,9 @@ pub fn run_in_folder<R: Files + AllocGlobal + Threads + Wait + Sync>(
     let code = match words {
         [first, rest @ ..] if first.as_str() == "netlist" => {
             run_netlist(alloc, rest, &mut depot, &mut sink).code()
+        }
+        [first, rest @ ..] if first.as_str() == "view" => {
+            run_view(rt, alloc, rest, &mut depot, &mut sink, &OpenGate).code()
         }
         _ => run_lvs(rt, alloc, words, &mut depot, &mut sink, &OpenGate).code(),
     };
