@@ -58,9 +58,10 @@ plain_cell c = record {
   places = places_of (map reference c.places.items);
 }
 
--- the plain layout: arrays stand as their placements
+-- the plain layout: arrays stand as their placements; a cell leaves each square that something from
+-- elsewhere lies over
 abbrev pub plain : Linked → flat.Design
-plain d = record { cells = map plain_cell d.cells; top = d.top }
+plain d = record { cells = map plain_cell d.cells; top = d.top; way = flat.Disturbed }
 
 -- how an element of an array is moved
 abbrev pub motion_at : Place → ℕ → ℕ → Motion

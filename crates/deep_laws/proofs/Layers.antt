@@ -3,13 +3,13 @@ use Rattle.std.proofs.Common.{◌≡◌, ◌⊎◌, inl, inr, ℕ, List, [], ◌
 use Rattle.geo_base.specs.Motions.{moved_square}
 use Rattle.geo_base.specs.declared.layer.LayerKey.{LayerKey}
 use Rattle.geo_base.specs.declared.shapes.Square.{Square}
-use Rattle.flat_layout.specs.Layers.{Formula, Input, Empty, Binary, Sized, inputs, reach, InFlat, IsCalmFlat, IsKept, IsKeptBelow, IsLocal, IsNewlyKept, IsStirred}
+use Rattle.flat_layout.specs.Layers.{Formula, Input, Empty, Binary, Sized, inputs, reach, InFlat, IsCalmFlat, IsKept, IsKeptBelow, IsLocal, IsNewlyKept, IsCalmAt}
 use Rattle.flat_layout.specs.Layout.{Design, Place, Some_of, IsOwn, IsPlaced, IsReached, InFlatInput, Takes}
 use Rattle.flat_layout.specs.Plane.{AreWithin}
 use Rattle.flat_laws.proofs.Moves.{onto, withins}
 use Rattle.flat_laws.proofs.Calm.{same_flat}
 use Rattle.flat_laws.proofs.Names.{near_input}
-use Rattle.deep_laws.specs.Layers.{CandidateLaw, BelowLaw, IsDerived, IsFromStirred, IsNearOwn, AreDecidedBelow}
+use Rattle.deep_laws.specs.Layers.{CandidateLaw, BelowLaw, IsDerived, IsFromOpen, IsNearOwn, AreDecidedBelow}
 
 -- a calm flat square is kept
 pub keeps : (d : Design) (cell : ℕ) (name : Formula) (q : Square) → IsCalmFlat d cell name q → IsKept d cell name q
@@ -39,14 +39,14 @@ local_new d cell (Binary op a b) q derived h = h
 local_new d cell (Sized by a) q derived h = h
 
 -- the placed cell keeps its square where that is calm
-kept_there : (d : Design) (name : Formula) (cell k : ℕ) (p : Place) (r q : Square) → IsReached d cell → IsPlaced d cell k p → (IsStirred d (inputs name) (reach name) p.cell r → ⊥) → moved_square p.motion r ≡ q
+kept_there : (d : Design) (name : Formula) (cell k : ℕ) (p : Place) (r q : Square) → IsReached d cell → IsPlaced d cell k p → IsCalmAt d (inputs name) (reach name) p.cell r → moved_square p.motion r ≡ q
     → InFlat d cell name q → IsKept d p.cell name r
 kept_there d name cell k p r q reached placed calm e flat =
     keeps d p.cell name r ((same_flat d name cell k p r reached placed calm).0 (subst (λ x. InFlat d cell name x) (sym e) flat), calm)
 
 by_path : (d : Design) (name : Formula) (cell : ℕ) (q : Square) → IsReached d cell → AreDecidedBelow d cell name → InFlat d cell name q
     → (key : LayerKey) → Some_of (λ k. k ≡ key) (inputs name) → (z : Square) → AreWithin (reach name) z q → (path : List ℕ) (end : ℕ) (s : Square) → Takes d cell path end s z → IsOwn d end key s
-    → IsNearOwn d cell name q ⊎ (IsFromStirred d cell name q ⊎ IsKeptBelow d cell name q)
+    → IsNearOwn d cell name q ⊎ (IsFromOpen d cell name q ⊎ IsKeptBelow d cell name q)
 by_path d name cell q reached decided flat key listed z near [] end s takes own =
     inl (record { key = key; square = z; listed = listed; own = subst (λ c. IsOwn d c key z) (sym takes.0) (subst (λ x. IsOwn d end key x) takes.1 own); within = near })
 by_path d name cell q reached decided flat key listed z near (k ∷ ks) end s takes own =
@@ -56,8 +56,8 @@ by_path d name cell q reached decided flat key listed z near (k ∷ ks) end s ta
     let close : AreWithin (reach name) takes.2 o.0 =
     (withins (reach name) p.motion takes.2 o.0).0 (subst (λ v. AreWithin (reach name) v (moved_square p.motion o.0)) (sym takes.4) (subst (λ v. AreWithin (reach name) z v) (sym o.1) near)) in
     elim (decided k p key takes.2 o.0 placed below close) [
-      | inl h ↦ inr (inl (record { number = k; place = p; square = o.0; placed = placed; key = key; listed = listed; shape = takes.2; flat = below; within = close; stirred = h; image = o.1 }))
-      | inr calm ↦ inr (inr (record { number = k; place = p; square = o.0; placed = placed; kept = kept_there d name cell k p o.0 q reached placed calm o.1 flat; image = o.1 }))
+      | inl calm ↦ inr (inr (record { number = k; place = p; square = o.0; placed = placed; kept = kept_there d name cell k p o.0 q reached placed calm o.1 flat; image = o.1 }))
+      | inr h ↦ inr (inl (record { number = k; place = p; square = o.0; placed = placed; key = key; listed = listed; shape = takes.2; flat = below; within = close; left = h; image = o.1 }))
     ]
 
 pub candidate : CandidateLaw

@@ -1,19 +1,20 @@
 -- A name looks the same above where all within its reach is shut.
-use Rattle.std.proofs.Common.{◌≡◌, ◌↔◌, inl, inr, ℕ, suc, ◌+◌, ◌≤◌, max, ℤ, pos, negsuc, unsigned_abs, List, [], ◌∷◌, ◌++◌, refl, sym, subst}
+use Rattle.std.proofs.Common.{◌≡◌, ◌↔◌, inl, inr, ℕ, ◌+◌, ◌≤◌, max, ℤ, unsigned_abs, List, [], ◌∷◌, ◌++◌, refl, sym, subst}
 use Rattle.std.proofs.Math.Nat.{le-max_left, le-max_right}
 use Rattle.flat_laws.specs.LayerLaws.{CalmLaw, SameFlatLaw}
-use Rattle.flat_laws.specs.ShutLaws.{AreShutLaws, Keeping, undisturbed_way}
-use Rattle.flat_layout.specs.Layers.{Formula, Input, Empty, Binary, Sized, inputs, reach, Combines, InFlat, IsCalmAt, IsLone}
+use Rattle.flat_laws.specs.ShutLaws.{AreShutLaws, Keeping, keeping}
+use Rattle.flat_layout.specs.Layers.{Formula, Input, Empty, Binary, Sized, inputs, reach, Combines, InFlat, IsCalmAt}
 use Rattle.flat_layout.specs.Layout.{Place, Design, Some_of, IsDisturbed, IsHeight, IsPlaced, IsReached}
-use Rattle.flat_layout.specs.Plane.{AreWithin, IsSized}
+use Rattle.flat_layout.specs.Plane.{AreWithin}
 use Rattle.geo_base.specs.declared.layer.LayerKey.{LayerKey}
 use Rattle.geo_base.specs.Motions.{moved_square}
 use Rattle.geo_base.specs.declared.layer.Op.{Op}
 use Rattle.geo_base.specs.declared.layer.Op.TheVariants.{And, Or, Not, Xor}
 use Rattle.geo_base.specs.declared.shapes.Square.{Square}
 use Rattle.flat_laws.proofs.Moves.{onto, withins, within_same, wider, farther}
+use Rattle.flat_laws.proofs.Sizing.{size_up, size_down}
 use Rattle.flat_laws.proofs.Names.{more_left, more_right}
-use Rattle.flat_laws.proofs.Shut.{shut_laws}
+use Rattle.flat_laws.proofs.Ways.{shut_laws}
 
 combined : (op : Op) (A B C D : Type 0) → A ↔ C → B ↔ D → Combines op A B → Combines op C D
 combined And A B C D f g h = (f.0 h.0, g.0 h.1)
@@ -22,23 +23,6 @@ combined Or A B C D f g (inr h) = inr (g.0 h)
 combined Not A B C D f g h = (f.0 h.0, λ k. h.1 (g.1 k))
 combined Xor A B C D f g (inl h) = inl (f.0 h.0, λ k. h.1 (g.1 k))
 combined Xor A B C D f g (inr h) = inr (g.0 h.0, λ k. h.1 (f.1 k))
-
--- a sized set is the same where all within the size is
-same_size : (set there : Square → Type 0) (p : Place) (by : ℤ) (q : Square) → ((z : Square) → AreWithin (unsigned_abs by) z q → there (moved_square p.motion z) ↔ set z) → IsSized by there (moved_square p.motion q) ↔ IsSized by set q
-same_size set there p (pos n) q same = (
-  (λ h.
-      let o = onto p.motion h.square in
-      let near : AreWithin n o.0 q = (withins n p.motion o.0 q).0 (subst (λ z. AreWithin n z (moved_square p.motion q)) (sym o.1) h.within) in
-      record { square = o.0; within = near; has = (same o.0 near).0 (subst (λ z. there z) (sym o.1) h.has) }),
-  (λ h. record { square = moved_square p.motion h.square; within = (withins n p.motion h.square q).1 h.within; has = (same h.square h.within).1 h.has }),
-)
-same_size set there p (negsuc n) q same = (
-  (λ h z near. (same z near).0 (h (moved_square p.motion z) ((withins (suc n) p.motion z q).1 near))),
-  (λ h z near.
-      let o = onto p.motion z in
-      let close : AreWithin (suc n) o.0 q = (withins (suc n) p.motion o.0 q).0 (subst (λ v. AreWithin (suc n) v (moved_square p.motion q)) (sym o.1) near) in
-      subst (λ v. there v) o.1 ((same o.0 close).1 (h o.0 close))),
-)
 
 -- in any way of keeping
 module _ (way : Keeping) (laws : AreShutLaws way) where
@@ -74,37 +58,24 @@ module _ (way : Keeping) (laws : AreShutLaws way) where
         (λ h. combined op _ _ _ _ (one.1, one.0) (two.1, two.0) h),
       )
   same_name d (Sized by a) parent k p q reached placed shut =
-      same_size (InFlat d p.cell a) (InFlat d parent a) p by q
-      (λ z near. same_name d a parent k p z reached placed (size_shut d by a p.cell z q near shut))
+      let each : (z : Square) → AreWithin (unsigned_abs by) z q → InFlat d parent a (moved_square p.motion z) ↔ InFlat d p.cell a z = λ z near. same_name d a parent k p z reached placed (size_shut d by a p.cell z q near shut) in (
+        size_down (InFlat d p.cell a) (InFlat d parent a) p by q (λ z near h. (each z near).0 h),
+        size_up (InFlat d p.cell a) (InFlat d parent a) p by q (λ z near h. (each z near).1 h),
+      )
 
--- in the way in force
-
-abbrev AreShut : Design → List LayerKey → ℕ → ℕ → Square → Type 0
-AreShut d keys n cell q = (z : Square) → AreWithin n z q → undisturbed_way.shut d keys cell z
-
-all_shut : (d : Design) (keys : List LayerKey) (n cell : ℕ) (q : Square) → IsCalmAt d keys n cell q → AreShut d keys n cell q
-all_shut d keys n cell q calm = λ z near h. calm (record { square = z; within = near; disturbed = h })
-
-calm_by : (d : Design) (keys : List LayerKey) (n cell : ℕ) (q : Square) → AreShut d keys n cell q → IsCalmAt d keys n cell q
-calm_by d keys n cell q shut = λ h. shut h.square h.within h.disturbed
+-- in the design's way
 
 pub calm_fewer : (d : Design) (keys more : List LayerKey) (m n cell : ℕ) (q : Square) → m ≤ n → ((key : LayerKey) → Some_of (λ k. k ≡ key) keys → Some_of (λ k. k ≡ key) more) → IsCalmAt d more n cell q → IsCalmAt d keys m cell q
-calm_fewer d keys more m n cell q lt grow calm = calm_by d keys m cell q (all_fewer undisturbed_way shut_laws d keys more m n cell q lt grow (all_shut d more n cell q calm))
+calm_fewer d keys more m n cell q lt grow calm = all_fewer (keeping d.way) (shut_laws d.way) d keys more m n cell q lt grow calm
 
 pub calm_above : CalmLaw
-calm_above d keys n parent k p q placed calm =
-    calm_by d keys n parent (moved_square p.motion q) (all_above undisturbed_way shut_laws d keys n parent k p q placed (all_shut d keys n p.cell q calm))
+calm_above d keys n parent k p q placed calm = all_above (keeping d.way) (shut_laws d.way) d keys n parent k p q placed calm
 
 pub top_calm : (d : Design) (height : ℕ → ℕ) → IsHeight d height → (keys : List LayerKey) (n : ℕ) (q : Square) → IsCalmAt d keys n d.top q
-top_calm d height linked keys n q = calm_by d keys n d.top q (λ z near. shut_laws.top d height linked keys z)
+top_calm d height linked keys n q = λ z near. (shut_laws d.way).top d height linked keys z
 
 pub calm_still : (d : Design) (keys : List LayerKey) (n cell : ℕ) (q : Square) → ((z : Square) → AreWithin n z q → IsDisturbed d keys cell z → ⊥) → IsCalmAt d keys n cell q
-calm_still d keys n cell q none = calm_by d keys n cell q (λ z near. shut_laws.still d keys cell z (none z near))
-
--- where a name's reach is calm others alone can't make it
-pub calm_lone : (d : Design) (name : Formula) (keys : List LayerKey) (n cell : ℕ) (q : Square) → reach name ≤ n → ((key : LayerKey) → Some_of (λ k. k ≡ key) (inputs name) → Some_of (λ k. k ≡ key) keys) → IsCalmAt d keys n cell q → IsLone d cell name q → ⊥
-calm_lone d name keys n cell q lt grow calm h = calm_fewer d (inputs name) keys (reach name) n cell q lt grow calm h
+calm_still d keys n cell q none = λ z near. (shut_laws d.way).still d keys cell z (none z near)
 
 pub same_flat : SameFlatLaw
-same_flat d name parent k p q reached placed calm =
-    same_name undisturbed_way shut_laws d name parent k p q reached placed (all_shut d (inputs name) (reach name) p.cell q calm)
+same_flat d name parent k p q reached placed calm = same_name (keeping d.way) (shut_laws d.way) d name parent k p q reached placed calm

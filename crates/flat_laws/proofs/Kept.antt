@@ -11,6 +11,7 @@ use Rattle.geo_base.specs.declared.shapes.Square.{Square}
 use Rattle.plain_netlist.specs.Chains.{IsChain, Reaches}
 use Rattle.flat_laws.proofs.Paths.{moved_square-injective}
 use Rattle.flat_laws.proofs.Calm.{calm_above, calm_fewer, same_flat}
+use Rattle.flat_laws.proofs.Lone.{lone_below}
 use Rattle.plain_netlist.proofs.Links.{stays, prepend}
 use Rattle.flat_laws.proofs.Joints.{region_self, region_next}
 use Rattle.flat_laws.proofs.Moves.{edges, arounds, around_same, edge_around, onto}
@@ -101,6 +102,9 @@ module _ (d : Design) (g : Geometry) (sound : IsSoundGeometry g) (cell k : ℕ) 
         let r = onto p.motion q in
         let near = (close r.0).0 (subst (λ y. IsGateOrRing d g cell (f s) y) (sym r.1) c) in
         subst (λ y. IsCalmAt d g.keys g.reach cell y) r.1 (calm_above d g.keys g.reach cell k p r.0 placed (settled.calm r.0 near));
+    mine = f settled.mine;
+    in_gate = gate_up settled.mine settled.in_gate;
+    alone = λ h. settled.alone (lone_below d g.region cell k p settled.mine placed h);
   }
 
 pub kept_gate : KeptGateLaw

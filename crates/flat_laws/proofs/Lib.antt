@@ -4,6 +4,9 @@ pub mod Moves
 pub mod Joints
 pub mod Names
 pub mod Shut
+pub mod Sizing
+pub mod Lone
+pub mod Ways
 pub mod Calm
 pub mod Cover
 pub mod Items
@@ -14,6 +17,10 @@ pub mod Formed
 pub mod Once
 pub mod Terminals
 pub mod Seeds
+pub mod Through
+pub mod Found
+pub mod Opens
+pub mod Leaving
 pub mod Count
 pub mod Same
 pub mod Judged

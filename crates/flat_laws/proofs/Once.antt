@@ -3,17 +3,18 @@ use Rattle.std.proofs.Common.{◌≡◌, ◌⊎◌, inl, inr, ℕ, zero, suc, �
 use Rattle.std.proofs.Math.Decide.{ℕ_discrete}
 use Rattle.flat_laws.specs.GateLaws.{OnePlaceLaw, GateLaw, TopLaw}
 use Rattle.flat_layout.specs.Gates.{Geometry, IsSoundGeometry, InGate, IsSettled, IsGateBelow, IsListedGate, IsFound}
-use Rattle.flat_layout.specs.Layers.{InFlat, IsLone}
+use Rattle.flat_layout.specs.Layers.{InFlat}
 use Rattle.flat_layout.specs.Layout.{Place, Design, IsPlaced, Takes, IsReached, IsHeight}
 use Rattle.flat_layout.specs.Parts.{Edges}
 use Rattle.geo_base.specs.Motions.{moved_square}
 use Rattle.geo_base.specs.declared.shapes.Square.{Square}
 use Rattle.flat_laws.proofs.Paths.{same_place}
-use Rattle.flat_laws.proofs.Calm.{calm_lone, top_calm}
-pub use Rattle.flat_laws.proofs.Shut.{calm_top, shut_laws}
+use Rattle.flat_laws.proofs.Calm.{top_calm}
+use Rattle.flat_laws.proofs.Lone.{lone, lone_top}
+pub use Rattle.flat_laws.proofs.Shut.{calm_top}
 use Rattle.flat_laws.proofs.Cover.{reached_below}
 use Rattle.flat_laws.proofs.Joints.{region_has, region_back, region_on, region_between, region_self}
-use Rattle.flat_laws.proofs.Kept.{close_in, squares, gate_up, gate_down, still}
+use Rattle.flat_laws.proofs.Kept.{squares, gate_up, gate_down, still}
 
 -- a gate is a region along edges
 module _ (d : Design) (g : Geometry) (cell : ℕ) where
@@ -35,20 +36,18 @@ module _ (d : Design) (g : Geometry) (cell : ℕ) where
   pub gate_self : (s : Square) → InFlat d cell g.region s → InGate d g cell s s
   gate_self s h = region_self Edges Flat s h
 
--- others can't make a settled gate's square alone
-not_lone : (d : Design) (g : Geometry) (cell : ℕ) (s : Square) → IsSoundGeometry g → IsSettled d g cell s → IsLone d cell g.region s → ⊥
-not_lone d g cell s sound settled =
-    calm_lone d g.region g.keys g.reach cell s sound.reach sound.keys (settled.calm s (close_in d g cell s s (gate_self d g cell s settled.is)))
-
+-- the square of the first that others can't make alone lies in the second's gate
 pub one_place : OnePlaceLaw
 one_place d g cell s sound reached a b =
     elim (ℕ_discrete a.number b.number) [
       | yes e ↦ e
       | no not ↦
-          let one = gate_between d g cell s (moved_square b.place.motion b.square) (moved_square a.place.motion a.square) b.image a.image in
-          let r = gate_down d g sound cell b.number b.place b.square reached b.placed b.settled (moved_square a.place.motion a.square) one in
+          let mine = gate_up d g sound cell a.number a.place a.square reached a.placed a.settled a.settled.mine a.settled.in_gate in
+          let above = gate_on d g cell s (moved_square a.place.motion a.square) (moved_square a.place.motion a.settled.mine) a.image mine in
+          let one = gate_between d g cell s (moved_square b.place.motion b.square) (moved_square a.place.motion a.settled.mine) b.image above in
+          let r = gate_down d g sound cell b.number b.place b.square reached b.placed b.settled (moved_square a.place.motion a.settled.mine) one in
           let there = gate_flat d g b.place.cell b.square r.0 r.2 in
-          absurd (not_lone d g a.place.cell a.square sound a.settled (shut_laws.lone d g.region cell a.number b.number a.place b.place a.square r.0 reached a.placed b.placed not (sym r.1) there))
+          absurd (a.settled.alone (lone d.way d g.region cell a.number b.number a.place b.place a.settled.mine r.0 reached a.placed b.placed not (sym r.1) there))
     ]
 
 -- the image of a settled gate along a path is settled
@@ -126,4 +125,10 @@ each_once d g height sound linked parted cell s reached settled =
     (f, λ h. unique d g sound f.path h.path cell s reached f.end f.square f.place f.takes f.image f.gate h.end h.square h.place h.takes h.image h.gate)
 
 pub top_settled : TopLaw
-top_settled d g height linked s h = record { is = h; calm = λ q c. top_calm d height linked g.keys g.reach q }
+top_settled d g height linked s h = record {
+  is = h;
+  calm = λ q c. top_calm d height linked g.keys g.reach q;
+  mine = s;
+  in_gate = gate_self d g d.top s h;
+  alone = λ a. lone_top d height linked g.region s a;
+}

@@ -1,31 +1,14 @@
--- Squares that nothing disturbs are shut as the laws want it.
-use Rattle.std.proofs.Common.{◌≡◌, ℕ, ◌≤◌, List, [], ◌∷◌, ◌++◌, refl, sym, ap, subst, arith}
-use Rattle.flat_laws.specs.ShutLaws.{AreShutLaws, undisturbed_way}
-use Rattle.flat_layout.specs.Layers.{Formula, inputs, reach, InFlat, IsShut, IsLone}
-use Rattle.flat_layout.specs.Layout.{Place, Design, IsPlaced, Takes, IsPrefix, IsReached, IsHeight}
-use Rattle.flat_layout.specs.Plane.{AreWithin}
+-- What each way of keeping shuts.
+use Rattle.std.proofs.Common.{◌≡◌, ◌↔◌, inl, inr, ℕ, ◌+◌, ◌≤◌, List, [], ◌∷◌, ◌++◌, refl, ap, subst, arith}
+use Rattle.std.proofs.Math.Decide.{ℕ_discrete}
+use Rattle.flat_layout.specs.Layout.{Place, Design, Some_of, IsOwn, IsPlaced, Takes, InFlatInput, IsPrefix, IsDisturbed, IsReached, IsHeight, Way, Disturbed, Covered}
 use Rattle.geo_base.specs.declared.layer.LayerKey.{LayerKey}
 use Rattle.geo_base.specs.Motions.{moved_square}
 use Rattle.geo_base.specs.declared.shapes.Square.{Square}
-use Rattle.flat_laws.proofs.Moves.{onto, withins}
-use Rattle.flat_laws.proofs.Names.{fewer, near_input}
-use Rattle.flat_laws.proofs.Paths.{disturbs, extends, first_differs, law, shorter}
-
-shut_above : (d : Design) (keys : List LayerKey) (parent k : ℕ) (p : Place) (q : Square) → IsPlaced d parent k p → IsShut d keys p.cell q → IsShut d keys parent (moved_square p.motion q)
-shut_above d keys parent k p q placed shut h =
-    shut (record {
-      path = h.path ++ k ∷ [];
-      other = h.other;
-      end = h.end;
-      square = h.square;
-      place = h.place;
-      key = h.key;
-      listed = h.listed;
-      takes = extends d d.top parent k p h.path q h.place h.takes placed;
-      others = h.others;
-      own = h.own;
-      apart = λ g. h.apart (shorter h.path k h.other g);
-    })
+use Rattle.flat_layout.specs.Layers.{IsShutBy}
+use Rattle.flat_laws.specs.ShutLaws.{ShutInputLaw, ShutAboveLaw, ShutTopLaw, ShutFewerLaw, ShutStillLaw, keeping}
+use Rattle.flat_laws.proofs.Names.{fewer}
+use Rattle.flat_laws.proofs.Paths.{disturbs, extends, first_differs, law, moved_square-injective, same_place, shorter}
 
 lower : (d : Design) (height : ℕ → ℕ) → IsHeight d height → (path : List ℕ) (from to : ℕ) (s q : Square) → Takes d from path to s q → height to ≤ height from
 lower d height linked [] from to s q h = let e : height from ≡ height to = ap height h.0 in omega arith
@@ -34,7 +17,7 @@ lower d height linked (k ∷ ks) from to s q h =
     let rest = lower d height linked ks h.0.cell to s h.2 h.3 in
     omega arith
 
-pub calm_top : (d : Design) (height : ℕ → ℕ) → IsHeight d height → (list : List LayerKey) (q : Square) → IsShut d list d.top q
+pub calm_top : (d : Design) (height : ℕ → ℕ) → IsHeight d height → (list : List LayerKey) (q : Square) → IsDisturbed d list d.top q → ⊥
 calm_top d height linked list q h = empty h.path h.takes h.apart
   where
     empty : (path : List ℕ) → Takes d d.top path d.top q h.place → (IsPrefix path h.other → ⊥) → ⊥
@@ -44,27 +27,71 @@ calm_top d height linked list q h = empty h.path h.takes h.apart
         let rest = lower d height linked ks t.0.cell d.top q t.2 t.3 in
         absurd (omega arith)
 
--- a shape within the name's reach of the other placement's square disturbs this one
-lone : (d : Design) (name : Formula) (cell j k : ℕ) (p r : Place) (q z : Square) → IsReached d cell → IsPlaced d cell j p → IsPlaced d cell k r → (j ≡ k → ⊥) → moved_square p.motion q ≡ moved_square r.motion z → InFlat d r.cell name z → IsLone d p.cell name q
-lone d name cell j k p r q z reached first second not e h =
-    let n = near_input d r.cell name z h in
-    let o = onto p.motion (moved_square r.motion n.2) in
-    let above : AreWithin (reach name) (moved_square r.motion n.2) (moved_square r.motion z) = (withins (reach name) r.motion n.2 z).1 n.3 in
-    let there : AreWithin (reach name) (moved_square p.motion o.0) (moved_square p.motion q) =
-    subst (λ v. AreWithin (reach name) (moved_square p.motion o.0) v) (sym e) (subst (λ v. AreWithin (reach name) v (moved_square r.motion z)) (sym o.1) above) in
-    record {
-      square = o.0;
-      within = (withins (reach name) p.motion o.0 q).0 there;
-      disturbed = disturbs d (inputs name) n.0 cell j p o.0 n.4.square (k ∷ n.4.path) n.4.end reached first n.1
-          (r, second, n.2, n.4.takes, sym o.1) n.4.own (first_differs k j n.4.path (λ i. not (sym i)));
-    }
-
-pub shut_laws : AreShutLaws undisturbed_way
-shut_laws = record {
-  input = law;
-  above = shut_above;
-  top = calm_top;
-  fewer = λ d keys more cell q grow shut h. shut (fewer d keys more cell q grow h);
-  still = λ d keys cell q shut. shut;
-  lone = lone;
+-- what disturbs the parent there disturbs the placed cell
+pub disturbed_below : (d : Design) (keys : List LayerKey) (parent k : ℕ) (p : Place) (q : Square) → IsPlaced d parent k p → IsDisturbed d keys parent (moved_square p.motion q) → IsDisturbed d keys p.cell q
+disturbed_below d keys parent k p q placed h = record {
+  path = h.path ++ k ∷ [];
+  other = h.other;
+  end = h.end;
+  square = h.square;
+  place = h.place;
+  key = h.key;
+  listed = h.listed;
+  takes = extends d d.top parent k p h.path q h.place h.takes placed;
+  others = h.others;
+  own = h.own;
+  apart = λ g. h.apart (shorter h.path k h.other g);
 }
+
+flat_up : (d : Design) (key : LayerKey) (parent k : ℕ) (p : Place) (q : Square) → IsPlaced d parent k p → InFlatInput d p.cell key q → InFlatInput d parent key (moved_square p.motion q)
+flat_up d key parent k p q placed f = record { path = k ∷ f.path; end = f.end; square = f.square; takes = (p, placed, q, f.takes, refl); own = f.own }
+
+-- a shape over a covered square comes from the placed cell, or the cell has one there itself
+came : (d : Design) (key : LayerKey) (parent k : ℕ) (p : Place) (q s : Square) (path : List ℕ) (end : ℕ)
+    → IsReached d parent → IsPlaced d parent k p → (IsDisturbed d (key ∷ []) p.cell q → InFlatInput d p.cell key q)
+    → Takes d parent path end s (moved_square p.motion q) → IsOwn d end key s → InFlatInput d p.cell key q
+came d key parent k p q s [] end reached placed shut takes own =
+    shut (disturbs d (key ∷ []) key parent k p q s [] end reached placed (inl refl) takes own (λ h. let e : k ∷ h.0 ≡ [] = h.1 in cc))
+came d key parent k p q s (j ∷ js) end reached placed shut takes own =
+    elim (ℕ_discrete j k) [
+      | yes e ↦
+          let same : takes.0 ≡ p = same_place d parent k takes.0 p (subst (λ (i : ℕ). IsPlaced d parent i takes.0) e takes.1) placed in
+          let image_same : moved_square p.motion takes.2 ≡ moved_square p.motion q = subst (λ (r : Place). moved_square r.motion takes.2 ≡ moved_square p.motion q) same takes.4 in
+          let square_same : takes.2 ≡ q = moved_square-injective p.motion takes.2 q image_same in
+          record {
+            path = js;
+            end = end;
+            square = s;
+            takes = subst (λ (v : Square). Takes d p.cell js end s v) square_same (subst (λ (r : Place). Takes d r.cell js end s takes.2) same takes.3);
+            own = own;
+          }
+      | no not ↦ shut (disturbs d (key ∷ []) key parent k p q s (j ∷ js) end reached placed (inl refl) takes own (first_differs j k js not))
+    ]
+
+pub shut_same : (v : Way) → ShutInputLaw (keeping v)
+shut_same Disturbed d keys key parent k p q reached placed listed shut = law d keys key parent k p q reached placed listed shut
+shut_same Covered d keys key parent k p q reached placed listed shut = (
+  (λ f. came d key parent k p q f.square f.path f.end reached placed (shut key listed) f.takes f.own),
+  flat_up d key parent k p q placed,
+)
+
+pub shut_above : (v : Way) → ShutAboveLaw (keeping v)
+shut_above Disturbed d keys parent k p q placed shut = λ h. shut (disturbed_below d keys parent k p q placed h)
+shut_above Covered d keys parent k p q placed shut = λ key listed h. flat_up d key parent k p q placed (shut key listed (disturbed_below d (key ∷ []) parent k p q placed h))
+
+pub shut_top : (v : Way) → ShutTopLaw (keeping v)
+shut_top Disturbed d height linked keys q = λ h. calm_top d height linked keys q h
+shut_top Covered d height linked keys q = λ key listed h. absurd (calm_top d height linked (key ∷ []) q h)
+
+pub shut_fewer : (v : Way) → ShutFewerLaw (keeping v)
+shut_fewer Disturbed d keys more cell q grow shut = λ h. shut (fewer d keys more cell q grow h)
+shut_fewer Covered d keys more cell q grow shut = λ key listed h. shut key (grow key listed) h
+
+one_key : (keys : List LayerKey) (key : LayerKey) → Some_of (λ k. k ≡ key) keys → (j : LayerKey) → Some_of (λ k. k ≡ j) (key ∷ []) → Some_of (λ k. k ≡ j) keys
+one_key keys key listed j (inl e) = subst (λ k. Some_of (λ i. i ≡ k) keys) e listed
+one_key keys key listed j (inr x) = absurd x
+
+-- where nothing is disturbed all is shut in each way
+pub shut_still : (v : Way) → ShutStillLaw (keeping v)
+shut_still Disturbed d keys cell q calm = calm
+shut_still Covered d keys cell q calm = λ key listed h. absurd (calm (fewer d (key ∷ []) keys cell q (one_key keys key listed) h))

@@ -3,13 +3,13 @@ use Rattle.std.specs.Prelude.{◌≡◌, ◌⊎◌, ◌↔◌, ℕ, List}
 use Rattle.flat_layout.specs.Layers.{InFlat, IsCalmAt, IsCovered, IsKept, IsKeptBelow, IsLocal}
 use Rattle.flat_layout.specs.Layers.{Formula, inputs, reach, IsStirred}
 use Rattle.flat_layout.specs.Layout.{Design, InFlatInput, IsDisturbed, IsHeight, IsPlaced}
-use Rattle.flat_layout.specs.Layout.{IsReached, Place, Some_of}
+use Rattle.flat_layout.specs.Layout.{IsReached, Place, Some_of, Disturbed}
 use Rattle.flat_layout.specs.Plane.{AreWithin}
 use Rattle.flat_layout.specs.Zones.{IsDisturbedAbove}
 use Rattle.geo_base.specs.declared.layer.LayerKey.{LayerKey}
 use Rattle.geo_base.specs.Motions.{moved_square}
 use Rattle.geo_base.specs.declared.shapes.Square.{Square}
-use Rattle.flat_laws.specs.ShutLaws.{ShutInputLaw, undisturbed_way}
+use Rattle.flat_laws.specs.ShutLaws.{ShutInputLaw, keeping}
 
 -- disturbed squares come down from the cells that place a cell: from their disturbed squares, and
 -- from shapes beside the placement
@@ -20,7 +20,7 @@ ZoneLaw = (d : Design) (keys : List LayerKey) (cell : ℕ) (q : Square) → IsDi
 -- outside the disturbed squares a placed cell has its flat squares in its parent, and no others lie
 -- there
 abbrev pub UndisturbedLaw : Type 0
-UndisturbedLaw = ShutInputLaw undisturbed_way
+UndisturbedLaw = ShutInputLaw (keeping Disturbed)
 
 -- within 0 of a square lies that square alone
 abbrev pub StillLaw : Type 0

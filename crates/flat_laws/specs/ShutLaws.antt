@@ -1,9 +1,9 @@
 -- What the laws of kept squares and of gates need of the squares that a cell shuts against what
 -- others draw: any other way of shutting them has to obey these laws, and no more.
 use Rattle.std.specs.Prelude.{◌≡◌, ◌↔◌, ℕ, List}
-use Rattle.flat_layout.specs.Layers.{Formula, InFlat, IsShut, IsLone}
+use Rattle.flat_layout.specs.Layers.{Formula, InFlat, IsShutBy, IsLone}
 use Rattle.flat_layout.specs.Layout.{Design, InFlatInput, IsDisturbed, IsHeight, IsPlaced}
-use Rattle.flat_layout.specs.Layout.{IsReached, Place, Some_of}
+use Rattle.flat_layout.specs.Layout.{IsReached, Place, Some_of, Way}
 use Rattle.geo_base.specs.declared.layer.LayerKey.{LayerKey}
 use Rattle.geo_base.specs.Motions.{moved_square}
 use Rattle.geo_base.specs.declared.shapes.Square.{Square}
@@ -14,9 +14,9 @@ pub record Keeping : Type 1 where
   pub shut : Design → List LayerKey → ℕ → Square → Type 0
   pub lone : Design → ℕ → Formula → Square → Type 0
 
--- the way in force: what nothing disturbs
-abbrev pub undisturbed_way : Keeping
-undisturbed_way = record { shut = IsShut; lone = IsLone }
+-- each way of a design
+abbrev pub keeping : Way → Keeping
+keeping way = record { shut = IsShutBy way; lone = IsLone }
 
 -- where a square is shut in a placed cell, the cell has its flat squares in its parent, and no
 -- others lie there

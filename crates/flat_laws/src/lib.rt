@@ -17,10 +17,10 @@ ghost use Rattle.flat_laws.specs.NetLaws.{TouchLaw, RegionLaw, OneParentLaw, One
 ghost use Rattle.flat_laws.specs.NetLaws.{TogetherLaw};
 ghost use Rattle.flat_laws.specs.NetlistLaws.{RowsLaw, PlannedLaw, PartLaw, NetLaw, NetlistLaw};
 ghost use Rattle.flat_laws.specs.NetlistLaws.{DeviceOfRuleLaw, FlatNetlistLaw, FlatRegionLaw};
-ghost use Rattle.flat_laws.specs.ShutLaws.{AreShutLaws, undisturbed_way};
+ghost use Rattle.flat_laws.specs.ShutLaws.{AreShutLaws, keeping};
 ghost use Rattle.flat_laws.specs.SeedLaws.{ReachLaw, SeedLaw, ThroughLaw};
-ghost use Rattle.flat_laws.specs.SeedLaws.{CalmThroughLaw, TestLaw, BelowLaw, OwnSeedLaw};
-ghost use Rattle.flat_laws.specs.SeedLaws.{KeptPartLaw, ClosedLaw, PartedLaw};
+ghost use Rattle.flat_laws.specs.SeedLaws.{CalmThroughLaw, TestLaw, BelowLaw, SeedOpenLaw};
+ghost use Rattle.flat_laws.specs.SeedLaws.{KeptPartLaw, ClosedLaw, PartedLaw, PartedOpenLaw};
 
 /// Disturbed squares of a cell come from the cells that place it.
 pub fn zones()
@@ -33,10 +33,10 @@ pub fn reaches()
     ensures near { NearInputLaw }
 {}
 
-/// What the laws of kept squares and of gates stand on: squares that nothing disturbs are shut in
+/// What the laws of kept squares and of gates stand on: by each way of a design squares are shut in
 /// the sense of these laws.
 pub fn shut_squares()
-    ensures { AreShutLaws undisturbed_way }
+    ensures { (way : _) → AreShutLaws (keeping way) }
 {}
 
 /// Undisturbed squares look the same from above.
@@ -104,10 +104,11 @@ pub fn own_gates()
     ensures calm { CalmThroughLaw }
     ensures test { TestLaw }
     ensures below { BelowLaw }
-    ensures own { OwnSeedLaw }
     ensures part { KeptPartLaw }
     ensures closed { ClosedLaw }
     ensures parted { PartedLaw }
+    ensures tabled_seed { SeedOpenLaw }
+    ensures tabled { PartedOpenLaw }
 {}
 
 /// The netlist of the cells expands to that of the flat layout.

@@ -6,7 +6,7 @@ use Rattle.geo_base.specs.Motions.{moved_square}
 use Rattle.geo_base.specs.declared.layer.LayerKey.{LayerKey}
 use Rattle.geo_base.specs.declared.motion.Motion.{Motion}
 use Rattle.geo_base.specs.declared.shapes.Square.{Square}
-use Rattle.flat_layout.specs.Layers.{Formula, inputs, reach, InFlat, IsCalmAt}
+use Rattle.flat_layout.specs.Layers.{Formula, inputs, reach, InFlat, IsCalmAt, IsLone}
 use Rattle.flat_layout.specs.Layout.{Place, Design, Some_of, IsPlaced, Takes}
 pub use Rattle.flat_layout.specs.Parts.{IsStep, IsLeast, Edge, Counts, AreClasses}
 pub use Rattle.flat_layout.specs.Parts.{Form, Beside, Alone, Sides, TwoGroups, Region}
@@ -48,10 +48,14 @@ IsGateOrRing d g cell s = IsCloseTo (InGate d g cell s)
 abbrev pub InRing : Design → Geometry → ℕ → Square → Square → Type 0
 InRing d g cell s = InRingOf (InGate d g cell s)
 
--- what the gate and its ring read is shut against what others draw
+-- all is calm on the gate and its ring, and not all of it can be made by others alone: so it is whole
+-- in the cell, and no other placement makes it too
 pub record IsSettled (d : Design) (g : Geometry) (cell : ℕ) (s : Square) : Type 0 where
   pub is : InFlat d cell g.region s
   pub calm : (q : Square) → IsGateOrRing d g cell s q → IsCalmAt d g.keys g.reach cell q
+  pub mine : Square
+  pub in_gate : InGate d g cell s mine
+  pub alone : IsLone d cell g.region mine → ⊥
 
 -- the gate is the image of a settled one
 pub record IsGateBelow (d : Design) (g : Geometry) (cell : ℕ) (s : Square) : Type 0 where

@@ -6,7 +6,7 @@ use Rattle.geo_base.specs.declared.layer.Op.{Op}
 use Rattle.geo_base.specs.declared.layer.Op.TheVariants.{And, Or, Not, Xor}
 use Rattle.geo_base.specs.declared.shapes.Square.{Square}
 use Rattle.flat_layout.specs.Layout.{Place, Design, IsOwn, IsPlaced, Takes, InFlatInput}
-use Rattle.flat_layout.specs.Layout.{IsDisturbed}
+use Rattle.flat_layout.specs.Layout.{IsDisturbed, Some_of, Way, Disturbed, Covered}
 use Rattle.flat_layout.specs.Plane.{AreWithin, IsSized}
 
 -- a name of the rules as the tree of what it reads; an empty layer reads nothing; a sized one is
@@ -52,21 +52,33 @@ pub record IsStirred (d : Design) (keys : List LayerKey) (n cell : ℕ) (q : Squ
   pub within : AreWithin n square q
   pub disturbed : IsDisturbed d keys cell square
 
--- nothing from elsewhere lies over q on these layers: the square is shut in the cell
+-- nothing from elsewhere lies over the square on these layers, or only where the cell itself has
+-- something on the same layer
+abbrev pub IsShutBy : Way → Design → List LayerKey → ℕ → Square → Type 0
+IsShutBy Disturbed d keys cell q = IsDisturbed d keys cell q → ⊥
+IsShutBy Covered d keys cell q = (key : LayerKey) → Some_of (λ k. k ≡ key) keys
+    → IsDisturbed d (key ∷ []) cell q → InFlatInput d cell key q
+
 abbrev pub IsShut : Design → List LayerKey → ℕ → Square → Type 0
-IsShut d keys cell q = IsDisturbed d keys cell q → ⊥
+IsShut d keys cell q = IsShutBy d.way d keys cell q
 
--- and all within n of it is
+-- and so all within n of it
 abbrev pub IsCalmAt : Design → List LayerKey → ℕ → ℕ → Square → Type 0
-IsCalmAt d keys n cell q = IsStirred d keys n cell q → ⊥
-
--- what others draw within the name's reach may make it a square of the name without the cell
-abbrev pub IsLone : Design → ℕ → Formula → Square → Type 0
-IsLone d cell name q = IsStirred d (inputs name) (reach name) cell q
+IsCalmAt d keys n cell q = (z : Square) → AreWithin n z q → IsShut d keys cell z
 
 -- a flat square within whose reach all is shut for the name's inputs
 abbrev pub IsCalmFlat : Design → ℕ → Formula → Square → Type 0
 IsCalmFlat d cell name q = InFlat d cell name q × IsCalmAt d (inputs name) (reach name) cell q
+
+-- the most that the shapes of others may make of a name without the cell's
+abbrev pub IsLone : Design → ℕ → Formula → Square → Type 0
+IsLone d cell (Input key) q = IsDisturbed d (key ∷ []) cell q
+IsLone d cell Empty q = ⊥
+IsLone d cell (Binary And a b) q = IsLone d cell a q × IsLone d cell b q
+IsLone d cell (Binary Or a b) q = IsLone d cell a q ⊎ IsLone d cell b q
+IsLone d cell (Binary Not a b) q = IsLone d cell a q
+IsLone d cell (Binary Xor a b) q = IsLone d cell a q ⊎ IsLone d cell b q
+IsLone d cell (Sized by a) q = IsSized by (IsLone d cell a) q
 
 -- the cell keeps q: of a derived name such a square, of an input layer each flat square
 abbrev pub IsKept : Design → ℕ → Formula → Square → Type 0

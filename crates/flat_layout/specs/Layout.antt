@@ -32,10 +32,17 @@ pub record Cell : Type 0 where
   pub texts : List Text
   pub places : List Place
 
+-- which shapes from elsewhere make a cell leave a square to the cells above: any on the layers in
+-- question, or only those on a layer on which the cell has nothing there itself
+pub data Way : Type 0 where
+  Disturbed : Way
+  Covered : Way
+
 -- cells are numbered from 0 in the order of the file
 pub record Design : Type 0 where
   pub cells : List Cell
   pub top : ℕ
+  pub way : Way
 
 -- some item has P
 abbrev pub Some_of : {A : Type 0} → (A → Type 0) → List A → Type 0

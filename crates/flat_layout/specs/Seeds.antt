@@ -3,10 +3,10 @@ use Rattle.std.specs.Prelude.{◌≡◌, ◌⊎◌, ℕ, ◌+◌, List, Bool, tr
 use Rattle.geo_base.specs.Motions.{moved_square}
 use Rattle.geo_base.specs.declared.layer.LayerKey.{LayerKey}
 use Rattle.geo_base.specs.declared.shapes.Square.{Square}
-use Rattle.flat_layout.specs.Gates.{Geometry, IsGateOrRing, IsSettled}
+use Rattle.flat_layout.specs.Gates.{Geometry, InGate, IsGateOrRing, IsSettled}
 use Rattle.flat_layout.specs.Layout.{Place, Design, Some_of, IsOwn, IsPlaced, InFlatInput}
 use Rattle.flat_layout.specs.Layout.{IsDisturbed}
-use Rattle.flat_layout.specs.Layers.{IsKept, IsCalmAt}
+use Rattle.flat_layout.specs.Layers.{IsKept, IsCalmAt, IsLone}
 use Rattle.flat_layout.specs.Parts.{IsStep, InPart, IsCloseTo}
 use Rattle.flat_layout.specs.Plane.{AreWithin}
 
@@ -59,11 +59,17 @@ pub record IsFreeThrough (d : Design) (g : Geometry) (cell : ℕ) (s : Square) (
         → IsInReach d g.keys (g.reach + 1) p.cell q
     pub calm : (q : Square) → IsGateOrRing d g cell s (moved_square p.motion q)
         → IsCalmAt d g.keys g.reach p.cell q
+    pub mine : Square
+    pub in_gate : InGate d g cell s (moved_square p.motion mine)
+    pub alone : IsLone d p.cell g.region mine → ⊥
 
 -- within the geometry's reach nothing is disturbed close to the part of the kept gate squares that has s
 pub record IsCalmPart (d : Design) (g : Geometry) (cell : ℕ) (s : Square) : Type 0 where
   pub calm : (q : Square) → IsCloseTo (InPart (IsKept d cell g.region) s) q
       → IsCalmAt d g.keys g.reach cell q
+  pub mine : Square
+  pub in_part : InPart (IsKept d cell g.region) s mine
+  pub alone : IsLone d cell g.region mine → ⊥
 
 -- found squares are kept gate squares, with all that steps lead to
 pub record IsClosed (d : Design) (g : Geometry) (cell : ℕ) (found : Square → Bool) : Type 0 where

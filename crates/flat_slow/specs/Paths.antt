@@ -4,7 +4,7 @@ use Rattle.geo_base.specs.Motions.{moved_square}
 use Rattle.geo_base.specs.declared.layer.LayerKey.{LayerKey}
 use Rattle.geo_base.specs.declared.shapes.Square.{Square}
 use Rattle.flat_layout.specs.Layout.{Place, Layer, Cell, Design, Some_of, IsPlaced, IsReached}
-use Rattle.flat_layout.specs.Layout.{InFlatInput, IsDisturbed}
+use Rattle.flat_layout.specs.Layout.{InFlatInput, IsDisturbed, Disturbed}
 use Rattle.flat_layout.specs.Plane.{IsIn}
 use Rattle.flat_layout.specs.Zones.{IsBeside}
 use Rattle.flat_slow.specs.declared.design.SlowShape.{SlowShape}
@@ -28,7 +28,7 @@ plain_cell c = record {
 }
 
 abbrev pub plain : SlowDesign → Design
-plain d = record { cells = map plain_cell d.cells.items; top = d.top }
+plain d = record { cells = map plain_cell d.cells.items; top = d.top; way = Disturbed }
 
 -- the layer is this one, and a rectangle of it covers the square
 abbrev pub IsOnLayer : LayerKey → Square → Layer → Type 0

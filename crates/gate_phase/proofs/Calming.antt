@@ -1,5 +1,5 @@
 -- What a cell keeps of the squares in both of two names.
-use Rattle.std.proofs.Common.{◌≡◌, ◌↔◌, inl, inr, ℕ, pos, ◌+◌, ◌<◌, ◌≤◌, ◌^◌, ◌-ℤ◌, max, true, false, ◌&&◌, ◌||◌, not, List, [], ◌∷◌, ◌++◌, Option, Some, None, length, get_or, slice_index_or, take, sym, ◌∙◌, ap, subst, arith}
+use Rattle.std.proofs.Common.{◌≡◌, ◌↔◌, inl, inr, ℕ, pos, ◌+◌, ◌<◌, ◌≤◌, ◌^◌, ◌-ℤ◌, max, true, false, ◌&&◌, ◌||◌, not, List, [], ◌∷◌, ◌++◌, Option, Some, None, length, get_or, slice_index_or, take, refl, sym, ◌∙◌, ap, subst, arith}
 use Rattle.std.specs.List.{All}
 use Rattle.std.proofs.lemmas.Bool.{false≢true, and_from, or_cases, or_left, or_right, cases_Bool, not-true, and_parts}
 use Rattle.std.proofs.lemmas.Int.{ints}
@@ -15,6 +15,7 @@ use Rattle.sized_layers.specs.Sizes.{IsSetWithin, IsSquareWithin}
 use Rattle.flat_layout.specs.Layers.{Binary, Formula, IsKept, IsStirred, inputs, reach}
 use Rattle.flat_layout.specs.Plane.{AreWithin, IsReachedBy}
 use Rattle.flat_laws.proofs.Moves.{farther}
+use Rattle.flat_laws.proofs.Leaving.{calm_unstirred, unstirred}
 use Rattle.cell_graph.specs.Grown.{IsInGrown}
 use Rattle.cell_graph.specs.Linked.{HullIsSound, IsRectWithin, IsSound, Linked, cell_at, hull_of, plain}
 use Rattle.cell_graph.proofs.Bridge.{has_in, hull_sound, in_has}
@@ -160,8 +161,8 @@ module _ (d : Linked) (r : RuleSet) (z : List (Option CellZones)) (cell : ℕ) (
           (kept_both (plain d) cell A B q).1 (
             (a, b),
             record {
-              first = λ s. all.1.0 (in_zone names.0 n h.one q one_room one_stirred h.is_one (kept_grown d cell A q sound a) (subst (λ m. IsStirred (plain d) (inputs A) m cell q) (sym far) s));
-              second = λ s. all.1.1 (in_zone names.1 n h.other q other_room other_stirred h.is_other (kept_grown d cell B q sound b) (subst (λ m. IsStirred (plain d) (inputs B) m cell q) (sym far) s));
+              first = calm_unstirred (plain d) (inputs A) (max (reach A) (reach B)) cell q (λ s. all.1.0 (in_zone names.0 n h.one q one_room one_stirred h.is_one (kept_grown d cell A q sound a) (subst (λ m. IsStirred (plain d) (inputs A) m cell q) (sym far) s)));
+              second = calm_unstirred (plain d) (inputs B) (max (reach A) (reach B)) cell q (λ s. all.1.1 (in_zone names.1 n h.other q other_room other_stirred h.is_other (kept_grown d cell B q sound b) (subst (λ m. IsStirred (plain d) (inputs B) m cell q) (sym far) s)));
             },
           )
 
@@ -172,8 +173,8 @@ module _ (d : Linked) (r : RuleSet) (z : List (Option CellZones)) (cell : ℕ) (
           (h.squares q).1 (
             (to_first k.0.0, to_second k.0.1),
             (
-              (λ near. k.1.first (subst (λ m. IsStirred (plain d) (inputs A) m cell q) far (zone_stirs names.0 n h.one q one_stirred h.is_one near))),
-              (λ near. k.1.second (subst (λ m. IsStirred (plain d) (inputs B) m cell q) far (zone_stirs names.1 n h.other q other_stirred h.is_other near))),
+              (λ near. unstirred (plain d) refl (inputs A) (max (reach A) (reach B)) cell q k.1.first (subst (λ m. IsStirred (plain d) (inputs A) m cell q) far (zone_stirs names.0 n h.one q one_stirred h.is_one near))),
+              (λ near. unstirred (plain d) refl (inputs B) (max (reach A) (reach B)) cell q k.1.second (subst (λ m. IsStirred (plain d) (inputs B) m cell q) far (zone_stirs names.1 n h.other q other_stirred h.is_other near))),
             ),
           )
 

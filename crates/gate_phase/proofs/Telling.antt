@@ -6,16 +6,18 @@ use Rattle.geo_base.specs.declared.shapes.Rect.{Rect}
 use Rattle.geo_base.specs.declared.shapes.Square.{Square}
 use Rattle.flat_layout.specs.Arrays.{place_at}
 use Rattle.flat_layout.specs.Gates.{Geometry, Rule, IsGateBelow, IsGateOrRing, IsSettled, IsSoundGeometry, gate_reach, geometry}
-use Rattle.flat_layout.specs.Layers.{Formula, Input, Empty, Binary, Sized, InFlat, IsKept, IsStirred}
+use Rattle.flat_layout.specs.Layers.{Formula, Input, Empty, Binary, Sized, InFlat, IsCalmAt, IsKept, IsStirred}
 use Rattle.flat_layout.specs.Layout as flat
 use Rattle.flat_layout.specs.Layout.{IsReached}
 use Rattle.flat_layout.specs.Parts.{IsCloseTo}
 use Rattle.flat_layout.specs.Plane.{IsReachedBy}
 use Rattle.flat_layout.specs.Seeds.{IsGateThrough, IsInReach}
 use Rattle.flat_laws.proofs.Formed.{read_layers}
-use Rattle.flat_laws.proofs.Moves.{farther}
+use Rattle.flat_laws.proofs.Moves.{around_same, farther}
 use Rattle.flat_laws.proofs.Once.{gate_self}
-use Rattle.flat_laws.proofs.Seeds.{below, calm_through, reach, through}
+use Rattle.flat_laws.proofs.Seeds.{reach}
+use Rattle.flat_laws.proofs.Through.{below, through}
+use Rattle.flat_laws.proofs.Leaving.{calm_unstirred, gate_through, not_lone, unstirred}
 use Rattle.cell_graph.specs.Linked.{Linked, IsSound, cell_at, hull_of, motion_at, plain, reference}
 use Rattle.cell_graph.proofs.Bridge.{hull_sound, placed_of, step_of}
 use Rattle.cell_graph.proofs.Growing.{near_square, wider_grown, within_grown}
@@ -94,12 +96,15 @@ module _ (d : Linked) (r : Rules) (z : List (Option CellZones)) (cell device : �
     to_settled (zone, is, apart) =
         let e = entry cell reached in
         let same : e.zone ≡ zone = one_zone z cell device e.zone zone e.is is in
-        told.settled.1 (λ q c stirred. apart q ((is_close q).1 c) (subst (λ l. IsReachedBy N (in_set l) q) same (zone_near cell e q (close_grown cell (in_set part) q is_flat c) stirred)))
+        let calm : (q : Square) → IsCloseTo (in_set part) q → IsCalmAt (plain d) g.keys N cell q =
+        λ q c. calm_unstirred (plain d) g.keys N cell q (λ stirred. apart q ((is_close q).1 c) (subst (λ l. IsReachedBy N (in_set l) q) same (zone_near cell e q (close_grown cell (in_set part) q is_flat c) stirred))) in
+        let self : IsCloseTo (in_set part) s = record { square = s; in_part = told.here; around = around_same s } in
+        told.settled.1 (record { calm = calm; mine = s; in_part = told.here; alone = not_lone (plain d) refl g g.region cell s small (calm s self) })
 
     from_settled : IsSettled (plain d) g cell s → MissesOpen N z cell device close
     from_settled settled =
         let e = entry cell reached in
-        (e.zone, e.is, λ q inside near. told.settled.0 settled q ((is_close q).0 inside) (zone_stirs cell e q near))
+        (e.zone, e.is, λ q inside near. unstirred (plain d) refl g.keys N cell q ((told.settled.0 settled).calm q ((is_close q).0 inside)) (zone_stirs cell e q near))
 
     -- a part is settled exactly where nothing is disturbed within reach of what is close to it
     pub settled_told : (n : ℕ) → N ≡ n → MissesOpen n z cell device close ↔ IsSettled (plain d) g cell s
@@ -118,12 +123,12 @@ module _ (d : Linked) (r : Rules) (z : List (Option CellZones)) (cell device : �
           let placed = placed_of d cell f.index f.row f.column f.from f.step in
           let e = entry f.from.cell (reached_step d cell f.index f.row f.column f.from reached f.step) in
           let same : e.zone ≡ f.free.zone = one_zone z f.from.cell device e.zone f.free.zone e.is f.free.zone_is in
-          let calm : (q : Square) → IsGateOrRing (plain d) g cell s (moved_square p.motion q) → IsStirred (plain d) g.keys N f.from.cell q → ⊥ =
-          λ q c stirred.
+          let calm : (q : Square) → IsGateOrRing (plain d) g cell s (moved_square p.motion q) → IsCalmAt (plain d) g.keys N f.from.cell q =
+          λ q c. calm_unstirred (plain d) g.keys N f.from.cell q (λ stirred.
           let k = f.free.free q (to_close (moved_square p.motion q) c) in
           let inside = subst (λ o. IsInGrown (N + 1) o q) (sym f.free.hull_is) k.0 in
-          k.1 (subst (λ l. IsReachedBy N (in_set l) q) same (zone_near f.from.cell e q inside stirred)) in
-          (below (plain d) g cell s small reached).1 (_, p, placed, calm_through (plain d) g cell _ p s small reached placed settled.is calm)
+          k.1 (subst (λ l. IsReachedBy N (in_set l) q) same (zone_near f.from.cell e q inside stirred))) in
+          (below (plain d) g cell s small reached).1 (_, p, placed, gate_through (plain d) refl g cell _ p s small reached placed settled.is calm)
 
       from_below : IsGateBelow (plain d) g cell s → IsFreeElement N d z cell device close start
       from_below h =
@@ -152,7 +157,7 @@ module _ (d : Linked) (r : Rules) (z : List (Option CellZones)) (cell device : �
               zone_is = e.is;
               free = λ q c.
                   let ring = from_close (moved_square (motion_at t.from t.row t.column) q) c in
-                  (subst (λ o. IsInGrown (N + 1) o q) some.1 (in_reach t.from.cell q (free.reach q ring)), λ near. free.calm q ring (zone_stirs t.from.cell e q near));
+                  (subst (λ o. IsInGrown (N + 1) o q) some.1 (in_reach t.from.cell q (free.reach q ring)), λ near. unstirred (plain d) refl g.keys N t.from.cell q (free.calm q ring) (zone_stirs t.from.cell e q near));
             };
           }
 

@@ -12,7 +12,7 @@ use Rattle.flat_layout.specs.Layout.{Design}
 use Rattle.flat_layout.specs.Parts.{IsStep, InPart}
 use Rattle.flat_layout.specs.Plane.{IsAround}
 use Rattle.flat_layout.specs.Seeds.{IsNearSeed, IsClosed}
-use Rattle.flat_laws.proofs.Seeds.{kept_part, closed, parted, unfound}
+use Rattle.flat_laws.proofs.Found.{kept_part, closed, parted, unfound}
 use Rattle.gate_shapes.specs.Sets.{in_set}
 use Rattle.gate_shapes.proofs.Joined.{step_back}
 use Rattle.gate_shapes.proofs.PartsOf.{end_in}
@@ -57,9 +57,22 @@ module _ (d : Design) (g : Geometry) (cell : ℕ) (seeds found : List Rect) (par
       let is : K s = ((same s).0 here).from in
       let law = kept_part d g cell s h.sound is in
       record {
+        here = here;
         settled = (
-          (λ settled q c. ((law.0).1 settled).calm q (record { square = c.square; in_part = (same c.square).0 c.in_part; around = c.around })),
-          (λ calm. (law.0).0 (record { calm = λ q c. calm q (record { square = c.square; in_part = (same c.square).1 c.in_part; around = c.around }) })),
+          (λ settled.
+              let part_is = (law.0).1 settled in
+              record {
+                calm = λ q c. part_is.calm q (record { square = c.square; in_part = (same c.square).0 c.in_part; around = c.around });
+                mine = part_is.mine;
+                in_part = (same part_is.mine).1 part_is.in_part;
+                alone = part_is.alone;
+              }),
+          (λ shut. (law.0).0 (record {
+            calm = λ q c. shut.calm q (record { square = c.square; in_part = (same c.square).1 c.in_part; around = c.around });
+            mine = shut.mine;
+            in_part = (same shut.mine).0 shut.in_part;
+            alone = shut.alone;
+          })),
         );
         squares = λ settled q. let e = law.1 settled q in ((λ p. e.0 ((same q).0 p)), (λ p. (same q).1 (e.1 p)));
       }

@@ -2,16 +2,16 @@
 use Rattle.std.specs.Prelude.{◌↔◌, ℕ, max}
 use Rattle.geo_base.specs.declared.layer.Op.TheVariants.{And}
 use Rattle.geo_base.specs.declared.shapes.Square.{Square}
-use Rattle.flat_layout.specs.Layers.{Formula, Binary, inputs, reach, IsKept, IsStirred}
+use Rattle.flat_layout.specs.Layers.{Formula, Binary, inputs, reach, IsCalmAt, IsKept}
 use Rattle.flat_layout.specs.Layout.{Design}
 
--- for neither name anything is disturbed within the greater reach of the two
+-- within the greater reach of the two names all is shut for both
 pub record AreBothCalm (d : Design) (cell : ℕ) (a b : Formula) (q : Square) : Type 0 where
-  pub first : IsStirred d (inputs a) (max (reach a) (reach b)) cell q → ⊥
-  pub second : IsStirred d (inputs b) (max (reach a) (reach b)) cell q → ⊥
+  pub first : IsCalmAt d (inputs a) (max (reach a) (reach b)) cell q
+  pub second : IsCalmAt d (inputs b) (max (reach a) (reach b)) cell q
 
--- the cell keeps it of both names, and near it nothing is disturbed for either: of an input layer a
--- cell keeps disturbed squares too, and of the name with the smaller reach those that only the
+-- the cell keeps it of both names, and near it all is shut for both: of an input layer a cell keeps
+-- squares that aren't shut, too, and of the name with the smaller reach those that only the
 -- other's reach has to leave out
 abbrev pub KeptBothLaw : Type 0
 KeptBothLaw = (d : Design) (cell : ℕ) (a b : Formula) (q : Square)

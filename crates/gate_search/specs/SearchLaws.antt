@@ -4,7 +4,7 @@ use Rattle.geo_base.specs.declared.shapes.Rect.{Rect}
 use Rattle.geo_base.specs.declared.shapes.Square.{Square}
 use Rattle.flat_layout.specs.Gates.{Geometry, InGate, IsSettled, IsGateBelow, IsListedGate}
 use Rattle.flat_layout.specs.Gates.{IsSoundGeometry}
-use Rattle.flat_layout.specs.Layers.{IsKept, IsStirred}
+use Rattle.flat_layout.specs.Layers.{IsCalmAt, IsKept, IsLone}
 use Rattle.flat_layout.specs.Layout.{Design, IsReached}
 use Rattle.flat_layout.specs.Parts.{IsCloseTo}
 use Rattle.flat_layout.specs.Seeds.{IsNearSeed}
@@ -22,12 +22,20 @@ pub record IsSearch (d : Design) (g : Geometry) (cell : ℕ) (seeds found : List
   pub gathered : IsGatheredAround (IsKept d cell g.region) seeds found
   pub parted : AreParts found parts
 
--- a part is settled exactly where nothing is disturbed within reach of a square close to it, and is
--- then the gate of each of its squares
+-- within reach of what is close to the part all is shut, and one of its squares others can't make
+-- alone
+pub record IsShutPart (d : Design) (g : Geometry) (cell : ℕ) (part : List Rect) : Type 0 where
+  pub calm : (q : Square) → IsCloseTo (in_set part) q → IsCalmAt d g.keys g.reach cell q
+  pub mine : Square
+  pub in_part : in_set part mine
+  pub alone : IsLone d cell g.region mine → ⊥
+
+-- the square is the part's, which is settled exactly where it is shut, and is then the gate of each
+-- of its squares
 pub record IsTold (d : Design) (g : Geometry) (cell : ℕ) (part : List Rect) (s : Square) : Type 0
   where
-    pub settled : IsSettled d g cell s ↔ ((q : Square) → IsCloseTo (in_set part) q
-        → IsStirred d g.keys g.reach cell q → ⊥)
+    pub here : in_set part s
+    pub settled : IsSettled d g cell s ↔ IsShutPart d g cell part
     pub squares : IsSettled d g cell s → (q : Square) → in_set part q ↔ InGate d g cell s q
 
 abbrev pub PartLaw : Type 0

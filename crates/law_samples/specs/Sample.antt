@@ -7,7 +7,7 @@ use Rattle.geo_base.specs.declared.shapes.Rect.{Rect}
 use Rattle.flat_layout.specs.Expanded.{CircuitTables}
 use Rattle.flat_layout.specs.Gates.{Rule}
 use Rattle.flat_layout.specs.Layers.{Input}
-use Rattle.flat_layout.specs.Layout.{Place, Cell, Design}
+use Rattle.flat_layout.specs.Layout.{Place, Cell, Design, Disturbed}
 use Rattle.flat_layout.specs.Nets.{Own, Child, CellNets, Tables}
 use Rattle.flat_layout.specs.Pins.{CellPins}
 use Rattle.flat_layout.specs.Regions.{Wiring}
@@ -44,7 +44,7 @@ parent = record {
 }
 
 abbrev pub sample_design : Design
-sample_design = record { cells = child ∷ (parent ∷ []); top = 1 }
+sample_design = record { cells = child ∷ (parent ∷ []); top = 1; way = Disturbed }
 
 abbrev pub sample_wiring : Wiring
 sample_wiring =

@@ -12,7 +12,7 @@ use Rattle.flat_layout.specs.Expanded.{CircuitTables}
 use Rattle.flat_layout.specs.Gates.{Rule}
 use Rattle.flat_layout.specs.GateTables.{GateEntry, GateRow, Good}
 use Rattle.flat_layout.specs.Layers.{Formula, Input, Empty, Binary}
-use Rattle.flat_layout.specs.Layout.{Place, Layer, Text, Cell, Design}
+use Rattle.flat_layout.specs.Layout.{Place, Layer, Text, Cell, Design, Disturbed}
 use Rattle.flat_layout.specs.Nets.{Own, Child, Global, CellNets, Tables}
 use Rattle.flat_layout.specs.Pins.{CellPins}
 use Rattle.flat_layout.specs.Regions.{Wiring}
@@ -70,7 +70,7 @@ parent = record {
 }
 
 abbrev pub gate_design : Design
-gate_design = record { cells = child ∷ (parent ∷ []); top = 1 }
+gate_design = record { cells = child ∷ (parent ∷ []); top = 1; way = Disturbed }
 
 -- active without poly, and with it
 abbrev pub sides : Formula

@@ -7,17 +7,18 @@ use Rattle.geo_base.specs.Motions.{moved_square}
 use Rattle.geo_base.specs.declared.shapes.Rect.{Rect}
 use Rattle.geo_base.specs.declared.shapes.Square.{Square}
 use Rattle.rect_sets.specs.Rects.{covers, IsCanonical}
-use Rattle.flat_layout.specs.Layers.{Formula, Input, Binary, Sized, Empty, inputs, reach, InFlat}
+use Rattle.flat_layout.specs.Layers.{Formula, Input, Binary, Sized, Empty, inputs, reach, InFlat, IsStirred}
 use Rattle.flat_layout.specs.Layout as flat
 use Rattle.flat_layout.specs.Layout.{IsDisturbed}
 use Rattle.flat_layout.specs.Plane.{AreWithin, IsHeldBy}
 use Rattle.flat_layout.specs.Values.{IsLocalLayer}
 use Rattle.flat_laws.proofs.Cover.{reached_below}
 use Rattle.flat_laws.proofs.Moves.{farther, within_back, within_same}
+use Rattle.flat_laws.proofs.Leaving.{calm_unstirred}
 use Rattle.cell_graph.specs.Linked.{Linked, IsSound, cell_at, hull_of, motion_at, plain}
 use Rattle.cell_graph.proofs.Bridge.{hulls, hull_sound, own, step_of}
 use Rattle.cell_graph.proofs.Growing.{within_grown, wider_grown}
-use Rattle.deep_laws.specs.Layers.{IsDerived, IsFromStirred, IsNearOwn}
+use Rattle.deep_laws.specs.Layers.{IsDerived, IsFromOpen, IsNearOwn}
 use Rattle.rule_text.specs.Rules.{Rules}
 use Rattle.rule_text.specs.declared.rules.LayerRule.{LayerRule}
 use Rattle.rule_text.specs.declared.rules.MosRule.{MosRule}
@@ -36,7 +37,7 @@ use Rattle.layer_phase.specs.Looks.{AreReadLooks, IsExposed}
 use Rattle.layer_phase.specs.Names.{IsFlatIn, IsReady}
 use Rattle.layer_phase.specs.Parts.{AreParts}
 use Rattle.layer_phase.proofs.Around.{around_none, near_covered, rects_of}
-use Rattle.layer_phase.proofs.Assembly.{layer}
+use Rattle.layer_phase.proofs.Assembly.{layer, told_below}
 use Rattle.layer_phase.proofs.Stirring.{stirred_around}
 use Rattle.layer_phase.proofs.Flattening.{known, named}
 use Rattle.layer_phase.proofs.Telling.{kept}
@@ -114,12 +115,20 @@ module _ (d : Linked) (r : Rules) (z : List (Option CellZones)) (cell name : ℕ
       let j = known seen.seen name x h.key tree_seen h.listed in
       seen.all.own j.0 h.key j.1 h.square q ((own d sound cell h.key h.square).0 h.own) h.within
 
-  stirred_seen : (q : Square) → IsFromStirred (plain d) cell x q → (covers looks q ≡ true) ⊎ (covers (around (reach x) zone) q ≡ true)
+  -- what isn't all shut is stirred
+  stirred_there : (q : Square) (h : IsFromOpen (plain d) cell x q) → IsStirred (plain d) (inputs x) (reach x) h.place.cell h.square
+  stirred_there q h = elim (told_below (zone_margin r.names) d x cell twice sound (tells d r z cell name x sound ready at asked twice).zones h.number h.place h.key h.shape h.square h.placed h.flat h.within) [
+    | inl s ↦ s
+    | inr none ↦ absurd (h.left (calm_unstirred (plain d) (inputs x) (reach x) h.place.cell h.square none))
+  ]
+
+  stirred_seen : (q : Square) → IsFromOpen (plain d) cell x q → (covers looks q ≡ true) ⊎ (covers (around (reach x) zone) q ≡ true)
   stirred_seen q h =
       let t = step_of d cell h.number h.place h.placed in
       let n = reach x in
-      let near = h.stirred.square in
-      let e = h.stirred.disturbed in
+      let there_is = stirred_there q h in
+      let near = there_is.square in
+      let e = there_is.disturbed in
       let key = e.key in
       let j = known seen.seen name x key tree_seen e.listed in
       let reached = reached_below (plain d) cell h.number h.place ready.reached h.placed in
@@ -127,12 +136,12 @@ module _ (d : Linked) (r : Rules) (z : List (Option CellZones)) (cell name : ℕ
       let there = zone_at (plain d) r z h.place.cell j.0 (Input key) ready.zones reached (named r.names j.0 key input.0) (still_read r.names r.devices r.more j.0 input.1) in
       let one : IsDisturbed (plain d) (key ∷ []) h.place.cell near = record { path = e.path; other = e.other; end = e.end; square = e.square; place = e.place; key = key; listed = inl refl; takes = e.takes; others = e.others; own = e.own; apart = e.apart } in
       let frame = (framed d (key ∷ []) (zone_margin r.names) h.place.cell there.0 (ready.hulls h.place.cell reached) there.2.canonical).0 there.2 in
-      let far : AreWithin (n + n) near h.shape = farther n n near h.square h.shape h.stirred.within (within_back n h.shape h.square h.within) in
+      let far : AreWithin (n + n) near h.shape = farther n n near h.square h.shape there_is.within (within_back n h.shape h.square h.within) in
       let held = within_grown (n + n) (hull_of (cell_at d h.place.cell)) near h.shape (hulls d sound h.place.cell h.key h.shape h.flat) far in
       let covered = (frame near).1 (one, wider_grown (n + n) (zone_margin r.names) (hull_of (cell_at d h.place.cell)) near twice held) in
       let k = known seen.seen name x h.key tree_seen h.listed in
       let exposed : IsExposed n d z seen.seen h.place.cell h.square =
-      record { name = j.0; key = key; named = j.1; zone = there.0; entry = there.1; near = near; disturbed = covered; within = h.stirred.within; other = k.0; flat_key = h.key; flat_named = k.1; shape = h.shape; flat = h.flat; close = h.within } in
+      record { name = j.0; key = key; named = j.1; zone = there.0; entry = there.1; near = near; disturbed = covered; within = there_is.within; other = k.0; flat_key = h.key; flat_named = k.1; shape = h.shape; flat = h.flat; close = h.within } in
       let image : moved_square (motion_at t.from t.row t.column) h.square ≡ q = ap (λ (y : flat.Place). moved_square y.motion h.square) (sym t.is) ∙ h.image in
       let found = seen.all.below t.index t.from t.step.there t.row t.column h.square t.step.row_in t.step.column_in
       (subst (λ (y : flat.Place). IsExposed n d z seen.seen y.cell h.square) t.is exposed) in

@@ -1,5 +1,5 @@
 -- A right table tells what placed cells keep.
-use Rattle.std.proofs.Common.{◌≡◌, ◌↔◌, inl, inr, ℕ, true, false, List, Option, Some, sym, ◌∙◌, ap, subst, slice_get}
+use Rattle.std.proofs.Common.{◌≡◌, ◌↔◌, inl, inr, ℕ, true, false, List, Option, Some, refl, sym, ◌∙◌, ap, subst, slice_get}
 use Rattle.base_laws.proofs.Tests.{not_both}
 use Rattle.std.proofs.lemmas.Bool.{cases_Bool}
 use Rattle.geo_base.specs.declared.shapes.Rect.{Rect}
@@ -7,10 +7,11 @@ use Rattle.geo_base.specs.Motions.{moved_square}
 use Rattle.geo_base.specs.declared.shapes.Square.{Square}
 use Rattle.rect_sets.specs.Rects.{covers, IsCanonical}
 use Rattle.flat_layout.specs.Arrays.{place_at}
-use Rattle.flat_layout.specs.Layers.{Formula, inputs, reach, IsStirred}
+use Rattle.flat_layout.specs.Layers.{Formula, inputs, reach, IsCalmAt, IsStirred}
 use Rattle.flat_layout.specs.Layout as flat
 use Rattle.flat_layout.specs.Layout.{IsReached}
 use Rattle.flat_laws.proofs.Cover.{reached_below}
+use Rattle.flat_laws.proofs.Leaving.{calm_unstirred, unstirred}
 use Rattle.cell_graph.specs.declared.cells.Place.{Place}
 use Rattle.cell_graph.specs.Linked.{Linked, IsStep, hull_of, cell_at, plain, reference}
 use Rattle.cell_graph.proofs.Bridge.{hull_sound, step_of, placed_of}
@@ -66,7 +67,7 @@ kept d r z x cell name sound hulls right reached named asked twice = record {
           square = h.square;
           placed = placed_of d cell h.index h.row h.column h.from h.step;
           held = h.held;
-          calm = λ g. not_both (covers (around (reach x) e.0) h.square) (is.1 g) off;
+          calm = calm_unstirred (plain d) (inputs x) (reach x) h.from.cell h.square (λ g. not_both (covers (around (reach x) e.0) h.square) (is.1 g) off);
           image = h.image;
         }
 
@@ -74,7 +75,7 @@ kept d r z x cell name sound hulls right reached named asked twice = record {
     from q h =
         let t = step_of d cell h.number h.place h.placed in
         let e = at t.from.cell (reached_step d cell t.index t.row t.column t.from reached t.step) in
-        let calm : IsStirred (plain d) (inputs x) (reach x) t.from.cell h.square → ⊥ = subst (λ (y : flat.Place). IsStirred (plain d) (inputs x) (reach x) y.cell h.square → ⊥) t.is h.calm in
+        let calm : IsCalmAt (plain d) (inputs x) (reach x) t.from.cell h.square = subst (λ (y : flat.Place). IsCalmAt (plain d) (inputs x) (reach x) y.cell h.square) t.is h.calm in
         let held : IsInGrown (reach x) (hull_of (cell_at d t.from.cell)) h.square = subst (λ (y : flat.Place). IsInGrown (reach x) (hull_of (cell_at d y.cell)) h.square) t.is h.held in
         let is = stirred t.from.cell e.0 h.square e.2 e.3 held in
         record {
@@ -88,7 +89,7 @@ kept d r z x cell name sound hulls right reached named asked twice = record {
           entry = e.0;
           at = e.1;
           off = elim (cases_Bool (covers (around (reach x) e.0) h.square)) [
-            | inl c ↦ absurd (calm (is.0 c))
+            | inl c ↦ absurd (unstirred (plain d) refl (inputs x) (reach x) t.from.cell h.square calm (is.0 c))
             | inr c ↦ c
           ];
           image = ap (λ (y : flat.Place). moved_square y.motion h.square) (sym t.is) ∙ h.image;

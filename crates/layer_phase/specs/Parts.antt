@@ -5,22 +5,22 @@ use Rattle.geo_base.specs.declared.shapes.Rect.{Rect}
 use Rattle.geo_base.specs.declared.shapes.Square.{Square}
 use Rattle.geo_base.specs.Motions.{moved_square}
 use Rattle.rect_sets.specs.Rects.{covers, IsCanonical}
-use Rattle.flat_layout.specs.Layers.{Formula, Input, inputs, reach, InFlat, IsStirred}
+use Rattle.flat_layout.specs.Layers.{Formula, Input, inputs, reach, InFlat, IsCalmAt, IsStirred}
 use Rattle.flat_layout.specs.Layout.{IsReached, IsPlaced, Place}
 use Rattle.flat_layout.specs.Values.{IsLocalLayer}
 use Rattle.cell_graph.specs.Linked.{Linked, IsSound, hull_of, cell_at, own_of, plain}
-use Rattle.deep_laws.specs.Layers.{IsDerived, IsNearOwn, IsFromStirred}
+use Rattle.deep_laws.specs.Layers.{IsDerived, IsNearOwn, IsFromOpen}
 use Rattle.deep_tables.specs.Frames.{IsFramedZone, IsInGrown}
 
--- a square of a placed cell's hull, grown by a name's reach, near which nothing is disturbed there
--- comes to q
+-- a square of a placed cell's hull, grown by a name's reach, near which all is shut there comes to
+-- q
 pub record IsFromCalmHull (d : Linked) (name : Formula) (cell : ℕ) (q : Square) : Type 0 where
   pub number : ℕ
   pub place : Place
   pub square : Square
   pub placed : IsPlaced (plain d) cell number place
   pub held : IsInGrown (reach name) (hull_of (cell_at d place.cell)) square
-  pub calm : IsStirred (plain d) (inputs name) (reach name) place.cell square → ⊥
+  pub calm : IsCalmAt (plain d) (inputs name) (reach name) place.cell square
   pub image : moved_square place.motion square ≡ q
 
 -- squares that are looked at, where nothing is disturbed, the flat ones of these, those of the cell's
@@ -28,7 +28,7 @@ pub record IsFromCalmHull (d : Linked) (name : Formula) (cell : ℕ) (q : Square
 pub record AreParts (d : Linked) (name : Formula) (cell : ℕ) (places flat zone calm : List Rect) :
     Type 0 where
   pub own : (q : Square) → IsNearOwn (plain d) cell name q → covers places q ≡ true
-  pub stirred : (q : Square) → IsFromStirred (plain d) cell name q → (covers places q ≡ true)
+  pub stirred : (q : Square) → IsFromOpen (plain d) cell name q → (covers places q ≡ true)
       ⊎ (covers zone q ≡ true)
   pub flats : (q : Square) → (covers flat q ≡ true) ↔ ((covers places q ≡ true)
       × InFlat (plain d) cell name q)

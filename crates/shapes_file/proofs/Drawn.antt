@@ -37,7 +37,7 @@ cell_drawn d r table ks k = record {
 }
 
 abbrev pub design_drawn : Linked → Rules → List (Option CellLayers) → List ℕ → flat.Design
-design_drawn d r table ks = record { cells = map (cell_drawn d r table ks) ks; top = position ks d.top }
+design_drawn d r table ks = record { cells = map (cell_drawn d r table ks) ks; top = position ks d.top; way = flat.Disturbed }
 
 -- ---- placements with other numbers
 

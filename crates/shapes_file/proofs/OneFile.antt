@@ -112,8 +112,8 @@ plain_map (x ∷ xs) (y ∷ ys) e =
 -- designs whose cells draw and place the same are one plain layout
 pub same_plain : (d e : Linked) → map contents d.cells ≡ map contents e.cells → d.top ≡ e.top → plain d ≡ plain e
 same_plain d e cells top =
-    ap (λ (cs : List flat.Cell). let f : flat.Design = record { cells = cs; top = d.top } in f) (plain_map d.cells e.cells cells)
-    ∙ ap (λ (t : ℕ). let f : flat.Design = record { cells = map plain_cell e.cells; top = t } in f) top
+    ap (λ (cs : List flat.Cell). let f : flat.Design = record { cells = cs; top = d.top; way = flat.Disturbed } in f) (plain_map d.cells e.cells cells)
+    ∙ ap (λ (t : ℕ). let f : flat.Design = record { cells = map plain_cell e.cells; top = t; way = flat.Disturbed } in f) top
 
 -- what is written of a cell
 pub record IsSameAt (a b : Option CellPart) : Type 0 where

@@ -1,4 +1,4 @@
-use Rattle.flat_laws.proofs.Shut.{shut_laws}
+use Rattle.flat_laws.proofs.Ways.{shut_laws}
 use Rattle.flat_laws.proofs.shut_squares.Goals as goal
 
 pub returns : goal.returns

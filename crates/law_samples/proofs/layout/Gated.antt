@@ -3,28 +3,27 @@ use Rattle.std.proofs.Common.{◌≡◌, ◌⊎◌, inl, inr, ℕ, zero, suc, �
 use Rattle.std.proofs.lemmas.Int.{ints}
 use Rattle.geo_base.specs.Motions.{moved_square}
 use Rattle.geo_base.specs.declared.shapes.Square.{Square}
+use Rattle.flat_laws.proofs.Formed.{read_layers}
 use Rattle.flat_laws.proofs.Names.{still}
 use Rattle.flat_laws.proofs.Once.{top_settled}
+use Rattle.flat_laws.proofs.Leaving.{calm_unstirred, settled_calm}
 use Rattle.flat_layout.specs.Gates.{IsSettled, IsGateBelow, IsListedGate}
 use Rattle.flat_layout.specs.Plane.{IsAround}
 use Rattle.law_samples.proofs.layout.Columns.{one_place, lower_cell, placed_here, no_place, levels, moved_column, one_column}
 use Rattle.law_samples.proofs.layout.Lone.{InG, geo, gate_is, gate_self}
 use Rattle.law_samples.proofs.layout.Sides.{gates_odd, child_gate, across_gate, disturbed_near}
 use Rattle.law_samples.specs.Sample.{sample_level}
-use Rattle.law_samples.specs.Transistors.{at, mirror_place, gate_design}
+use Rattle.law_samples.specs.Transistors.{at, mirror_place, gate_design, gate_wiring, rule}
 
 pub child_settled : IsSettled gate_design geo 0 (at 1)
-child_settled = record {
-  is = child_gate;
-  calm = λ q close h.
-      let e = gate_is 0 (at 1) close.square close.in_part in
-      let near : IsAround (at 1) q = subst (λ k. IsAround k q) (sym e) close.around in
-      let far = disturbed_near geo.keys q ((still gate_design geo.keys 0 q).0 h) in
-      let right = near.left in
-      let x = ap (λ (k : Square). k.x) far.2 in
-      let lt = far.1 in
-      absurd (omega (arith, ints));
-}
+child_settled = settled_calm gate_design refl geo 0 (at 1) (read_layers gate_wiring rule).gate child_gate (λ q close. calm_unstirred gate_design geo.keys geo.reach 0 q (λ h.
+    let e = gate_is 0 (at 1) close.square close.in_part in
+    let near : IsAround (at 1) q = subst (λ k. IsAround k q) (sym e) close.around in
+    let far = disturbed_near geo.keys q ((still gate_design geo.keys 0 q).0 h) in
+    let right = near.left in
+    let x = ap (λ (k : Square). k.x) far.2 in
+    let lt = far.1 in
+    absurd (omega (arith, ints))))
 
 across_settled : IsSettled gate_design geo 1 (at 1)
 across_settled = top_settled gate_design geo sample_level levels.lower (at 1) across_gate

@@ -4,8 +4,9 @@ use Rattle.std.proofs.lemmas.Int.{ints}
 use Rattle.geo_base.specs.Motions.{moved_square}
 use Rattle.geo_base.specs.declared.layer.LayerKey.{LayerKey}
 use Rattle.geo_base.specs.declared.shapes.Square.{Square}
-use Rattle.flat_laws.proofs.Once.{calm_top}
-use Rattle.flat_layout.specs.Layers.{Input, InFlat, IsKept, IsKeptBelow, IsLocal, inputs, reach, IsStirred}
+use Rattle.flat_laws.proofs.Calm.{top_calm}
+use Rattle.flat_laws.proofs.Leaving.{calm_unstirred, unstirred}
+use Rattle.flat_layout.specs.Layers.{Input, InFlat, IsKept, IsKeptBelow, IsLocal, inputs, reach, IsCalmAt}
 use Rattle.flat_layout.specs.Layout.{Place, Layer, Cell, Some_of, IsOwn, Takes, IsPrefix, IsDisturbed}
 use Rattle.flat_layout.specs.Plane.{IsIn}
 use Rattle.flat_layout.specs.Regions.{formula}
@@ -120,8 +121,8 @@ calm_column keys x small h =
     let e = ap (λ (k : Square). k.x) near.2 in
     absurd (omega (arith, ints))
 
-calm_reach : (x : ℕ) → x ≤ 2 → IsStirred gate_design (inputs sides) (reach sides) 0 (at x) → ⊥
-calm_reach x small h = calm_column (inputs sides) x small ((still gate_design (inputs sides) 0 (at x)).0 h)
+calm_reach : (x : ℕ) → x ≤ 2 → IsCalmAt gate_design (inputs sides) (reach sides) 0 (at x)
+calm_reach x small = calm_unstirred gate_design (inputs sides) (reach sides) 0 (at x) (λ h. calm_column (inputs sides) x small ((still gate_design (inputs sides) 0 (at x)).0 h))
 
 -- the parent's poly lies over the child's column 3
 crossed : IsDisturbed gate_design (inputs sides) 0 (at 3)
@@ -141,13 +142,13 @@ crossed = record {
 
 -- the child keeps its sides in columns 0 and 2
 child_kept : (q : Square) → IsKept gate_design 0 sides q → (q ≡ at 0) ⊎ (q ≡ at 2)
-child_kept q h = elim (child_sides q h.0) [ inl e ↦ inl e | inr f ↦ elim f [ inl e ↦ inr e | inr e ↦ absurd (h.1 ((still gate_design (inputs sides) 0 q).1 (subst (IsDisturbed gate_design (inputs sides) 0) (sym e) crossed))) ] ]
+child_kept q h = elim (child_sides q h.0) [ inl e ↦ inl e | inr f ↦ elim f [ inl e ↦ inr e | inr e ↦ absurd (unstirred gate_design refl (inputs sides) (reach sides) 0 q h.1 ((still gate_design (inputs sides) 0 q).1 (subst (IsDisturbed gate_design (inputs sides) 0) (sym e) crossed))) ] ]
 
 -- and not the one in column 3
 pub lost : InFlat gate_design 0 sides (at 3) × (IsKept gate_design 0 sides (at 3) → ⊥)
 lost =
     let bare : InFlat gate_design 0 (Input (key_of 1)) (at 3) → ⊥ = λ h. elim (poly_at 0 (at 3) h) [ inl e ↦ (let f = one_column 3 1 e in absurd (omega arith)) | inr e ↦ (let f = e.0 in absurd (omega arith)) ] in
-    ((column_flat 0 0 3 (omega arith) (inr (inr (inr (inl refl)))), bare), λ h. h.1 ((still gate_design (inputs sides) 0 (at 3)).1 crossed))
+    ((column_flat 0 0 3 (omega arith) (inr (inr (inr (inl refl)))), bare), λ h. unstirred gate_design refl (inputs sides) (reach sides) 0 (at 3) h.1 ((still gate_design (inputs sides) 0 (at 3)).1 crossed))
 
 kept_left : IsKept gate_design 0 sides (at 0)
 kept_left = (child_left, calm_reach 0 (omega arith))
@@ -156,7 +157,7 @@ kept_right : IsKept gate_design 0 sides (at 2)
 kept_right = (child_right, calm_reach 2 (omega arith))
 
 pub top_kept : (q : Square) → InFlat gate_design 1 sides q → IsKept gate_design 1 sides q
-top_kept q h = (h, λ s. calm_top gate_design sample_level levels.lower (inputs sides) s.square s.disturbed)
+top_kept q h = (h, top_calm gate_design sample_level levels.lower (inputs sides) (reach sides) q)
 
 none_below : (q : Square) → IsKeptBelow gate_design 0 sides q → ⊥
 none_below q h = no_place 0 h.number h.place refl h.placed
