@@ -222,6 +222,29 @@ pub fn collect(
     Ok(set)
 }
 
+/// The flat squares of a cell on an input layer among these: one walk for each rectangle of them.
+pub fn collect_in(
+    alloc: Global,
+    design: &Design,
+    cell: u32,
+    key: LayerKey,
+    places: &RectSet,
+) -> Result<RectSet, AllocError>
+    requires cell { cell < length design.now.cells }
+    requires near { All (IsRectWithin (2 ^ 39)) places.now }
+    ensures { IfOk result (λ r. (q : Square) → (covers r q ≡ true)
+        ↔ ((covers places.now q ≡ true) × InFlatInput (plain design.now) cell key q)) }
+{
+    design.sound();
+    let mut out = Vec::new(alloc);
+    for rect in places.rects() {
+        let more = gather(alloc, design, cell, key, rect, None)?;
+        out.extend_from_slice(&more)?;
+    }
+    let set = RectSet::canon(alloc, out)?;
+    Ok(set)
+}
+
 /// Where nothing is skipped, what lies over a square is the flat layer.
 pub fn over_laws()
     ensures { OverLaw }

@@ -25,3 +25,4 @@ pub mod Roots
 pub mod Sweeping
 pub mod Indexing
 pub mod Windows
+pub mod Ways

@@ -14,6 +14,8 @@ use Rattle.geo_base.specs.declared.shapes.Square.{Square}
 use Rattle.flat_layout.specs.Arrays.{Reference, place_at, places_of}
 use Rattle.flat_layout.specs.Hull.{IsHullOf, TakesPoint}
 use Rattle.flat_layout.specs.Layout as flat
+use Rattle.flat_layout.specs.declared.way.Way.{Way}
+use Rattle.flat_layout.specs.declared.way.Way.TheVariants.{Disturbed}
 use Rattle.plain_netlist.specs.Lists.{AreApart}
 use Rattle.cell_graph.specs.declared.cells.OwnLayer.{OwnLayer}
 use Rattle.cell_graph.specs.declared.cells.RawText.{RawText}
@@ -25,9 +27,16 @@ pub record Linked : Type 0 where
   pub cells : List CellPart
   pub top : ℕ
   pub order : List ℕ
+  pub way : Way
 
+-- as it is linked, cells leave each square that something from elsewhere lies over
 abbrev pub linked_of : List CellPart → ℕ → List ℕ → Linked
-linked_of cells top order = record { cells = cells; top = top; order = order }
+linked_of cells top order =
+    record { cells = cells; top = top; order = order; way = Disturbed }
+
+-- the same design, whose cells keep squares in this way
+abbrev pub keeping : Way → Linked → Linked
+keeping way d = record d { way = way }
 
 -- the reference that stands for an array of placements
 abbrev pub reference : Place → Reference
@@ -58,10 +67,9 @@ plain_cell c = record {
   places = places_of (map reference c.places.items);
 }
 
--- the plain layout: arrays stand as their placements; a cell leaves each square that something from
--- elsewhere lies over
+-- the plain layout: arrays stand as their placements
 abbrev pub plain : Linked → flat.Design
-plain d = record { cells = map plain_cell d.cells; top = d.top; way = flat.Disturbed }
+plain d = record { cells = map plain_cell d.cells; top = d.top; way = d.way }
 
 -- how an element of an array is moved
 abbrev pub motion_at : Place → ℕ → ℕ → Motion

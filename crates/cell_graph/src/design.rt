@@ -3,13 +3,14 @@
 ghost use Rattle.std.specs.Prelude.{◌≡◌, ◌<◌, ℕ, length, [], Some, IfOk};
 ghost use Rattle.tile_index.specs.Windows.{ArePositions};
 ghost use Rattle.cell_graph.specs.Linked.{own_rects, own_of, cell_at, hull_of, places_at};
-ghost use Rattle.cell_graph.specs.Linked.{linked_of, IsSound};
+ghost use Rattle.cell_graph.specs.Linked.{keeping, linked_of, IsSound};
 ghost use Rattle.cell_graph.specs.Spans.{ArePlacesIn};
 ghost use Rattle.cell_graph.specs.Laws.{OwnLaw, HeightLaw, LevelLaw, OrderLaw, HullLaw, SeenLaw};
 ghost use Rattle.cell_graph.specs.declared.cells.CellPart.{CellPart};
 
 use crate::cells::{CellPart, OwnLayer, Place, RawText, is_same_key};
 use crate::indexes::{CellIndex, find_index, indexes_of, numbers_at};
+use flat_layout::Way;
 use geo_base::{LayerKey, Rect};
 use net_names::Name;
 use rect_sets::RectSet;
@@ -25,6 +26,7 @@ pub struct Design {
     order: Vec<u32>,
     nothing: RectSet,
     indexes: Vec<CellIndex>,
+    way: Way,
 }
 
 // Written out, so that its owners drop it by one call.
@@ -36,6 +38,7 @@ impl Drop for Design {
             order: _,
             nothing: _,
             indexes: _,
+            way: _,
         } = self;
     }
 }
@@ -83,6 +86,7 @@ impl Design {
             order,
             nothing: RectSet::empty(alloc),
             indexes,
+            way: Way::Disturbed,
         })
     }
 
@@ -92,6 +96,22 @@ impl Design {
         ensures { IsSound self.now }
     {
         let _ = &self.top;
+    }
+
+    /// The same design, whose cells keep squares in this way. O(1).
+    pub fn keeping(self, way: Way) -> Design
+        ensures { result ≡ keeping way self }
+    {
+        let mut design = self;
+        design.way = way;
+        design
+    }
+
+    /// The way in which its cells keep squares.
+    pub fn way(&self) -> Way
+        ensures { result ≡ self.now.way }
+    {
+        self.way
     }
 
     /// The number of cells.

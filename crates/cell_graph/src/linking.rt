@@ -8,6 +8,7 @@ ghost use Rattle.cell_graph.specs.Drafts.{IsFault, IsLink};
 ghost use Rattle.cell_graph.specs.Extents.{HaveArrays};
 ghost use Rattle.cell_graph.specs.Finished.{IsExamined};
 ghost use Rattle.cell_graph.specs.Tops.{now_of};
+ghost use Rattle.flat_layout.specs.declared.way.Way.TheVariants.{Disturbed};
 
 use crate::bounds::Bounds;
 use crate::cells::Place;
@@ -73,6 +74,7 @@ impl Design {
             → AreApart (layer_keys c.layers.items) }
         requires arrays { HaveArrays cells.items }
         ensures design { IfOk result (IsLink cells.items (now_of top.entry)) }
+        ensures way { IfOk result (λ d. d.way ≡ Disturbed) }
         ensures fault { IfErr result (IsFault cells.items (now_of top.entry)) }
     {
         let found = examined(alloc, &cells, top)?;

@@ -10,6 +10,7 @@ use Rattle.flat_layout.specs.Layout as flat
 use Rattle.flat_layout.specs.Layout.{Design, Some_of, IsOwn, IsDisturbed, IsPrefix, InFlatInput, Takes}
 use Rattle.flat_layout.specs.Zones.{IsBeside, IsDisturbedAbove}
 use Rattle.flat_laws.proofs.Names.{more_left, more_right}
+use Rattle.flat_laws.proofs.Shut.{some_either}
 use Rattle.flat_laws.proofs.Paths.{first_differs}
 use Rattle.flat_laws.proofs.Zone.{zones}
 use Rattle.cell_graph.specs.declared.cells.Place.{Place}
@@ -147,11 +148,6 @@ array_zones d sound cell key q = (
   (λ h. from_above d cell key q sound ((zones (plain d) (key ∷ []) cell q).0 h)),
   (λ h. (zones (plain d) (key ∷ []) cell q).1 (to_above d cell key q sound h)),
 )
-
-some_either : (P : LayerKey → Type 0) (xs ys : List LayerKey) → Some_of P (xs ++ ys) → Some_of P xs ⊎ Some_of P ys
-some_either P [] ys h = inr h
-some_either P (x ∷ xs) ys (inl h) = inl (inl h)
-some_either P (x ∷ xs) ys (inr h) = elim (some_either P xs ys h) [ inl a ↦ inl (inr a) | inr b ↦ inr b ]
 
 listed_in : (d : Design) (keys more : List LayerKey) (cell : ℕ) (q : Square) (h : IsDisturbed d more cell q) → Some_of (λ k. k ≡ h.key) keys → IsDisturbed d keys cell q
 listed_in d keys more cell q h l = record { path = h.path; other = h.other; end = h.end; square = h.square; place = h.place; key = h.key; listed = l; takes = h.takes; others = h.others; own = h.own; apart = h.apart }

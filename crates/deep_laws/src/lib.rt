@@ -4,4 +4,4 @@
 
 mod laws;
 
-pub use laws::{layer_laws, zone_laws};
+pub use laws::{layer_laws, lone_laws, open_laws, zone_laws};

@@ -23,7 +23,7 @@ mod zones;
 pub use circuits::{CellCircuit, CircuitKey, Circuits};
 pub use flat_layout::GateCause;
 pub use gates::{BadGate, CellGates, Gate, GateState, Gates};
-pub use indexed::{IndexedSet, index_of};
+pub use indexed::{IndexedSet, index_of, indexed_sets};
 pub use jobs::free_graph;
 pub use keys::{DeepKey, GateKey};
 pub use laws::{
@@ -33,4 +33,4 @@ pub use layers::{CellLayers, Layers};
 pub use nets::{CellNets, Item, NetSource, Nets};
 pub use pins::{CellPins, Pins};
 pub use table::positions;
-pub use zones::{CellZones, ZoneKey, Zones};
+pub use zones::{CellZones, CoveredZones, ZoneKey, Zones};

@@ -1,7 +1,8 @@
-//! Disturbed squares.
-ghost use Rattle.std.specs.Prelude.{◌≡◌, IfOk, IsSome, Some};
+//! The squares that cells leave to the cells above, and what disturbs them.
+ghost use Rattle.std.specs.Prelude.{◌≡◌, ◌<◌, IfOk, IsSome, Option, Some, length, option_map};
 ghost use Rattle.deep_tables.specs.Entries.{entry, IsDownward};
-ghost use Rattle.deep_tables.specs.Zones.{zone_of};
+ghost use Rattle.deep_tables.specs.declared.zones.ZoneKey.TheVariants.{Device};
+ghost use Rattle.deep_tables.specs.Zones.{HasName, disturbed_in, lone_in, lone_of, zone_of};
 
 use crate::indexed::{IndexedSet, indexed_sets};
 use crate::keys::DeepKey;
@@ -12,13 +13,25 @@ use rect_sets::RectSet;
 use std::alloc::{AllocError, Global};
 use std::marker::Model;
 
-/// A cell's disturbed squares within one square round its hull: for each name of the rules that is
-/// derived, or that a derived name or a device rule reads, and for each device rule. At other names
-/// stands any set. Each set has an index of its rectangles.
+/// What a cell has beside that keeps what it covers itself: for each name of the rules that is an
+/// input layer, what lies over the cell from elsewhere, and for each device rule the squares of its
+/// regions' layer that others may make without the cell.
+#[derive(Drop)]
+pub struct CoveredZones {
+    pub inputs: Vec<IndexedSet>,
+    pub lone: Vec<RectSet>,
+}
+
+/// The squares that a cell leaves to the cells above, in its hull and so far round it as the rules'
+/// margin says: for each name of the rules that is derived, or that a derived name or a device rule
+/// reads, and for each device rule. At other names stands any set. Each set has an index of its
+/// rectangles. Where a cell leaves all that something from elsewhere lies over there is no more to
+/// say.
 #[derive(Drop)]
 pub struct CellZones {
     pub layers: Vec<IndexedSet>,
     pub devices: Vec<IndexedSet>,
+    pub covered: Option<CoveredZones>,
 }
 
 impl CellZones {
@@ -27,13 +40,42 @@ impl CellZones {
         alloc: Global,
         layers: Vec<RectSet>,
         devices: Vec<RectSet>,
+        covered: Option<CoveredZones>,
     ) -> Result<CellZones, AllocError>
         ensures layers { IfOk result (λ z. z.layers.items ≡ layers.items) }
         ensures devices { IfOk result (λ z. z.devices.items ≡ devices.items) }
+        ensures covered { IfOk result (λ z. z.covered ≡ covered) }
     {
         let layers = indexed_sets(alloc, layers)?;
         let devices = indexed_sets(alloc, devices)?;
-        Ok(CellZones { layers, devices })
+        Ok(CellZones {
+            layers,
+            devices,
+            covered,
+        })
+    }
+
+    /// What lies over the cell from elsewhere on an input layer, by the number of its name, in
+    /// constant time.
+    pub fn disturbed(&self, name: usize) -> &IndexedSet
+        requires { HasName name self.now }
+        ensures { result.now ≡ disturbed_in self.now name }
+    {
+        match &self.covered {
+            Some(covered) => &covered.inputs[name],
+            None => &self.layers[name],
+        }
+    }
+
+    /// The squares of a device rule's regions' layer that others may make without the cell, where
+    /// that is told; in constant time.
+    pub fn lone(&self, rule: usize) -> Option<&RectSet>
+        ensures { option_map (λ s. s.now) result ≡ lone_in self.now rule }
+    {
+        match &self.covered {
+            Some(covered) => covered.lone.get(rule),
+            None => None,
+        }
     }
 }
 
@@ -49,14 +91,14 @@ impl Defined for CellZones {
         (rules_seen key.rules.value) (downward_cell key.design.value job) v };
 }
 
-/// What squares are disturbed for: the inputs of a name, or of a device rule's layers.
+/// What squares are left for: a name, or the layers of a device rule.
 #[derive(Clone, Copy, Debug, PartialEq, Eq)]
 pub enum ZoneKey {
     Layer(u32),
     Device(u32),
 }
 
-/// The disturbed squares of each cell that the top reaches. Contracts see a list with an entry, or
+/// The squares that each cell leaves that the top reaches. Contracts see a list with an entry, or
 /// none, for each cell.
 #[derive(Drop)]
 pub struct Zones {
@@ -85,8 +127,8 @@ impl Zones {
         Ok(Zones { table })
     }
 
-    /// A cell's disturbed squares for a name or a device rule, with the index of their rectangles,
-    /// in constant time.
+    /// The squares that a cell leaves for a name or a device rule, with the index of their
+    /// rectangles, in constant time.
     pub fn indexed(&self, cell: u32, key: ZoneKey) -> &IndexedSet
         requires { IsSome (zone_of self.now cell key) }
         ensures { zone_of self.now cell key ≡ Some result.now }
@@ -98,8 +140,17 @@ impl Zones {
         }
     }
 
-    /// A cell's disturbed squares for a name or a device rule, in constant time.
-    pub fn disturbed(&self, cell: u32, key: ZoneKey) -> &RectSet
+    /// The squares of a device rule's regions' layer that others may make without the cell, where
+    /// that is told; in constant time.
+    pub fn lone(&self, cell: u32, rule: u32) -> Option<&RectSet>
+        requires { IsSome (zone_of self.now cell (Device rule)) }
+        ensures { option_map (λ s. s.now) result ≡ lone_of self.now cell rule }
+    {
+        self.table.of(cell).lone(rule as usize)
+    }
+
+    /// The squares that a cell leaves for a name or a device rule, in constant time.
+    pub fn left(&self, cell: u32, key: ZoneKey) -> &RectSet
         requires { IsSome (zone_of self.now cell key) }
         ensures { zone_of self.now cell key ≡ Some result.now }
     {

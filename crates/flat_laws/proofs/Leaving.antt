@@ -2,9 +2,10 @@
 use Rattle.std.proofs.Common.{◌≡◌, ℕ, ◌≤◌, List, sym, subst}
 use Rattle.flat_layout.specs.Gates.{Geometry, IsReadBy, IsSoundGeometry, InGate, IsGateOrRing, IsSettled}
 use Rattle.flat_layout.specs.Layers.{Formula, inputs, reach, InFlat, IsCalmAt, IsKept, IsLone, IsShutBy, IsStirred}
-use Rattle.flat_layout.specs.Layout.{Design, Place, IsPlaced, IsReached, Disturbed}
+use Rattle.flat_layout.specs.Layout.{Design, Place, IsPlaced, IsReached}
 use Rattle.flat_layout.specs.Parts.{Edges, InPart, IsCloseTo}
 use Rattle.flat_layout.specs.Seeds.{IsCalmPart, IsGateThrough}
+use Rattle.flat_layout.specs.declared.way.Way.TheVariants.{Disturbed}
 use Rattle.geo_base.specs.declared.layer.LayerKey.{LayerKey}
 use Rattle.geo_base.specs.Motions.{moved_square}
 use Rattle.geo_base.specs.declared.shapes.Square.{Square}

@@ -21,6 +21,7 @@ pub mod Through
 pub mod Found
 pub mod Opens
 pub mod Leaving
+pub mod Anyway
 pub mod Count
 pub mod Same
 pub mod Judged

@@ -2,8 +2,9 @@
 use Rattle.std.proofs.Common.{◌≡◌, inl, inr, ℕ, suc, ◌+◌, max, ℤ, pos, negsuc, unsigned_abs, [], ◌∷◌, ◌++◌, refl, sym, subst}
 use Rattle.std.proofs.Math.Nat.{le-max_left, le-max_right}
 use Rattle.flat_layout.specs.Layers.{Formula, Input, Empty, Binary, Sized, inputs, reach, InFlat, IsLone}
-use Rattle.flat_layout.specs.Layout.{Place, Design, IsPlaced, IsDisturbed, IsReached, IsHeight, Way}
+use Rattle.flat_layout.specs.Layout.{Place, Design, IsPlaced, IsDisturbed, IsReached, IsHeight}
 use Rattle.flat_layout.specs.Plane.{AreWithin, IsSized}
+use Rattle.flat_layout.specs.declared.way.Way.{Way}
 use Rattle.geo_base.specs.Motions.{moved_square}
 use Rattle.geo_base.specs.declared.layer.Op.{Op}
 use Rattle.geo_base.specs.declared.layer.Op.TheVariants.{And, Or, Not, Xor}

@@ -1,11 +1,13 @@
 -- What each way of keeping shuts.
-use Rattle.std.proofs.Common.{◌≡◌, ◌↔◌, inl, inr, ℕ, ◌+◌, ◌≤◌, List, [], ◌∷◌, ◌++◌, refl, ap, subst, arith}
+use Rattle.std.proofs.Common.{◌≡◌, ◌↔◌, ◌⊎◌, inl, inr, ℕ, ◌+◌, ◌≤◌, List, [], ◌∷◌, ◌++◌, refl, ap, subst, arith}
 use Rattle.std.proofs.Math.Decide.{ℕ_discrete}
-use Rattle.flat_layout.specs.Layout.{Place, Design, Some_of, IsOwn, IsPlaced, Takes, InFlatInput, IsPrefix, IsDisturbed, IsReached, IsHeight, Way, Disturbed, Covered}
+use Rattle.flat_layout.specs.Layout.{Place, Design, Some_of, IsOwn, IsPlaced, Takes, InFlatInput, IsPrefix, IsDisturbed, IsReached, IsHeight}
 use Rattle.geo_base.specs.declared.layer.LayerKey.{LayerKey}
 use Rattle.geo_base.specs.Motions.{moved_square}
 use Rattle.geo_base.specs.declared.shapes.Square.{Square}
 use Rattle.flat_layout.specs.Layers.{IsShutBy}
+use Rattle.flat_layout.specs.declared.way.Way.{Way}
+use Rattle.flat_layout.specs.declared.way.Way.TheVariants.{Disturbed, Covered}
 use Rattle.flat_laws.specs.ShutLaws.{ShutInputLaw, ShutAboveLaw, ShutTopLaw, ShutFewerLaw, ShutStillLaw, keeping}
 use Rattle.flat_laws.proofs.Names.{fewer}
 use Rattle.flat_laws.proofs.Paths.{disturbs, extends, first_differs, law, moved_square-injective, same_place, shorter}
@@ -95,3 +97,24 @@ one_key keys key listed j (inr x) = absurd x
 pub shut_still : (v : Way) → ShutStillLaw (keeping v)
 shut_still Disturbed d keys cell q calm = calm
 shut_still Covered d keys cell q calm = λ key listed h. absurd (calm (fewer d (key ∷ []) keys cell q (one_key keys key listed) h))
+
+pub some_either : (P : LayerKey → Type 0) (xs ys : List LayerKey) → Some_of P (xs ++ ys) → Some_of P xs ⊎ Some_of P ys
+some_either P [] ys h = inr h
+some_either P (x ∷ xs) ys (inl h) = inl (inl h)
+some_either P (x ∷ xs) ys (inr h) = elim (some_either P xs ys h) [ inl a ↦ inl (inr a) | inr b ↦ inr b ]
+
+-- what disturbs a square for two lists does so for one of them
+pub disturbed_either : (d : Design) (xs ys : List LayerKey) (cell : ℕ) (q : Square) → IsDisturbed d (xs ++ ys) cell q → IsDisturbed d xs cell q ⊎ IsDisturbed d ys cell q
+disturbed_either d xs ys cell q h = elim (some_either (λ k. k ≡ h.key) xs ys h.listed) [
+  | inl a ↦ inl (record { path = h.path; other = h.other; end = h.end; square = h.square; place = h.place; key = h.key; listed = a; takes = h.takes; others = h.others; own = h.own; apart = h.apart })
+  | inr b ↦ inr (record { path = h.path; other = h.other; end = h.end; square = h.square; place = h.place; key = h.key; listed = b; takes = h.takes; others = h.others; own = h.own; apart = h.apart })
+]
+
+-- for no layers all is shut, and for two lists what is so for both
+pub shut_none : (v : Way) (d : Design) (cell : ℕ) (q : Square) → IsShutBy v d [] cell q
+shut_none Disturbed d cell q = λ h. h.listed
+shut_none Covered d cell q = λ key listed h. absurd listed
+
+pub shut_both : (v : Way) (d : Design) (xs ys : List LayerKey) (cell : ℕ) (q : Square) → IsShutBy v d xs cell q → IsShutBy v d ys cell q → IsShutBy v d (xs ++ ys) cell q
+shut_both Disturbed d xs ys cell q first second = λ h. elim (disturbed_either d xs ys cell q h) [ inl x ↦ first x | inr y ↦ second y ]
+shut_both Covered d xs ys cell q first second = λ key listed h. elim (some_either (λ k. k ≡ key) xs ys listed) [ inl a ↦ first key a h | inr b ↦ second key b h ]

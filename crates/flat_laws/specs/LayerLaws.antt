@@ -3,9 +3,10 @@ use Rattle.std.specs.Prelude.{◌≡◌, ◌⊎◌, ◌↔◌, ℕ, List}
 use Rattle.flat_layout.specs.Layers.{InFlat, IsCalmAt, IsCovered, IsKept, IsKeptBelow, IsLocal}
 use Rattle.flat_layout.specs.Layers.{Formula, inputs, reach, IsStirred}
 use Rattle.flat_layout.specs.Layout.{Design, InFlatInput, IsDisturbed, IsHeight, IsPlaced}
-use Rattle.flat_layout.specs.Layout.{IsReached, Place, Some_of, Disturbed}
+use Rattle.flat_layout.specs.Layout.{IsReached, Place, Some_of}
 use Rattle.flat_layout.specs.Plane.{AreWithin}
 use Rattle.flat_layout.specs.Zones.{IsDisturbedAbove}
+use Rattle.flat_layout.specs.declared.way.Way.TheVariants.{Disturbed}
 use Rattle.geo_base.specs.declared.layer.LayerKey.{LayerKey}
 use Rattle.geo_base.specs.Motions.{moved_square}
 use Rattle.geo_base.specs.declared.shapes.Square.{Square}

@@ -3,7 +3,8 @@
 use Rattle.std.specs.Prelude.{◌≡◌, ◌↔◌, ℕ, List}
 use Rattle.flat_layout.specs.Layers.{Formula, InFlat, IsShutBy, IsLone}
 use Rattle.flat_layout.specs.Layout.{Design, InFlatInput, IsDisturbed, IsHeight, IsPlaced}
-use Rattle.flat_layout.specs.Layout.{IsReached, Place, Some_of, Way}
+use Rattle.flat_layout.specs.Layout.{IsReached, Place, Some_of}
+use Rattle.flat_layout.specs.declared.way.Way.{Way}
 use Rattle.geo_base.specs.declared.layer.LayerKey.{LayerKey}
 use Rattle.geo_base.specs.Motions.{moved_square}
 use Rattle.geo_base.specs.declared.shapes.Square.{Square}

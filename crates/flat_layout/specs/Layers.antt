@@ -6,8 +6,10 @@ use Rattle.geo_base.specs.declared.layer.Op.{Op}
 use Rattle.geo_base.specs.declared.layer.Op.TheVariants.{And, Or, Not, Xor}
 use Rattle.geo_base.specs.declared.shapes.Square.{Square}
 use Rattle.flat_layout.specs.Layout.{Place, Design, IsOwn, IsPlaced, Takes, InFlatInput}
-use Rattle.flat_layout.specs.Layout.{IsDisturbed, Some_of, Way, Disturbed, Covered}
+use Rattle.flat_layout.specs.Layout.{IsDisturbed, Some_of}
 use Rattle.flat_layout.specs.Plane.{AreWithin, IsSized}
+use Rattle.flat_layout.specs.declared.way.Way.{Way}
+use Rattle.flat_layout.specs.declared.way.Way.TheVariants.{Disturbed, Covered}
 
 -- a name of the rules as the tree of what it reads; an empty layer reads nothing; a sized one is
 -- another grown by so many squares on all sides, or shrunk

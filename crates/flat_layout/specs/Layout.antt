@@ -8,6 +8,7 @@ use Rattle.geo_base.specs.declared.shapes.Point.{Point}
 use Rattle.geo_base.specs.declared.shapes.Rect.{Rect}
 use Rattle.geo_base.specs.declared.shapes.Square.{Square}
 use Rattle.flat_layout.specs.Plane.{IsIn}
+use Rattle.flat_layout.specs.declared.way.Way.{Way}
 
 -- a placement: the placed cell's number, and how it is moved
 pub record Place : Type 0 where
@@ -32,13 +33,7 @@ pub record Cell : Type 0 where
   pub texts : List Text
   pub places : List Place
 
--- which shapes from elsewhere make a cell leave a square to the cells above: any on the layers in
--- question, or only those on a layer on which the cell has nothing there itself
-pub data Way : Type 0 where
-  Disturbed : Way
-  Covered : Way
-
--- cells are numbered from 0 in the order of the file
+-- cells are numbered from 0 in the order of the file; they keep squares in one way
 pub record Design : Type 0 where
   pub cells : List Cell
   pub top : ℕ

@@ -1,7 +1,8 @@
 -- What each phase fills in for a cell: over the tables of the phases before it, and without a word
 -- of other values of its own phase. The nets of a cell are said in Nets, its gates in GateTables,
 -- its pins in Pins.
-use Rattle.std.specs.Prelude.{◌≡◌, ◌⊎◌, ◌↔◌, ℕ, Bool, true, List, Option, Some, None}
+use Rattle.std.specs.Prelude.{◌≡◌, ◌⊎◌, ◌↔◌, ℕ, Bool, true, false, List}
+use Rattle.std.specs.Prelude.{Option, Some, None}
 use Rattle.geo_base.specs.declared.layer.LayerKey.{LayerKey}
 use Rattle.geo_base.specs.declared.shapes.Rect.{Rect}
 use Rattle.geo_base.specs.declared.shapes.Square.{Square}
@@ -10,7 +11,7 @@ use Rattle.flat_layout.specs.Circuits.{AreDrawn, CircuitParts, IsCircuitCell, Is
 use Rattle.flat_layout.specs.Gates.{Rule}
 use Rattle.flat_layout.specs.GateTables.{GateEntry}
 use Rattle.flat_layout.specs.Hull.{IsInHull}
-use Rattle.flat_layout.specs.Layers.{Formula, IsKept, IsKeptBelow, IsLocal}
+use Rattle.flat_layout.specs.Layers.{Formula, IsKept, IsKeptBelow, IsLocal, IsLone, IsShut}
 use Rattle.flat_layout.specs.Layout.{Design, Place, IsDisturbed, IsPlaced}
 use Rattle.flat_layout.specs.Nets.{Tables, IsUnder}
 use Rattle.flat_layout.specs.Pins.{CellPins}
@@ -21,6 +22,17 @@ use Rattle.plain_netlist.specs.Netlist.{Circuit}
 pub record IsZone (d : Design) (keys : List LayerKey) (n cell : ℕ) (v : List Rect) : Type 0 where
   pub canonical : IsCanonical v
   pub each : (q : Square) → (covers v q ≡ true) ↔ (IsDisturbed d keys cell q × IsInHull d cell n q)
+
+-- squares of the hull grown by n that aren't shut for some layers: outside of them all is
+pub record IsOpenZone (d : Design) (keys : List LayerKey) (n cell : ℕ) (v : List Rect) : Type 0 where
+  pub canonical : IsCanonical v
+  pub inside : (q : Square) → covers v q ≡ true → IsInHull d cell n q × (IsShut d keys cell q → ⊥)
+  pub shut : (q : Square) → IsInHull d cell n q → covers v q ≡ false → IsShut d keys cell q
+
+-- in that hull, the squares that others may make of a name without the cell
+pub record IsLoneZone (d : Design) (name : Formula) (n cell : ℕ) (v : List Rect) : Type 0 where
+  pub canonical : IsCanonical v
+  pub each : (q : Square) → IsInHull d cell n q → (covers v q ≡ true) ↔ IsLone d cell name q
 
 -- the squares that a cell itself holds of a name; and of each kept square it is known whether it is
 -- one of these or comes from below

@@ -1,5 +1,5 @@
 //! What a hierarchical layout means, flat and cell by cell: definitions over plain records, and
-//! the one type that code shares, why a gate is bad.
+//! the two types that code shares, why a gate is bad and which squares cells keep.
 //!
 //! Of layouts: `specs/Plane` has unit squares, `Layout` designs, paths, flat input layers and
 //! disturbed squares, `Order` and `Hull` the order of cells and their hulls, `Arrays` the
@@ -15,5 +15,7 @@
 #![tactic(auto)]
 
 mod cause;
+mod way;
 
 pub use cause::GateCause;
+pub use way::Way;

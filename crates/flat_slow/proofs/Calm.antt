@@ -1,7 +1,8 @@
 -- What isn't disturbed at a square isn't within the reach of a name that is nowhere sized.
 use Rattle.std.proofs.Common.{◌≡◌, ◌↔◌, ◌∙◌, ℕ, max, ap, refl, sym, subst, Bool, IsTrue, IfSome, Option, Some, None}
 use Rattle.flat_layout.specs.Layers.{inputs, reach, InFlat, IsCalmAt, IsStirred}
-use Rattle.flat_layout.specs.Layout.{Design, IsDisturbed, Disturbed}
+use Rattle.flat_layout.specs.Layout.{Design, IsDisturbed}
+use Rattle.flat_layout.specs.declared.way.Way.TheVariants.{Disturbed}
 use Rattle.flat_laws.proofs.Names.{still}
 use Rattle.flat_laws.proofs.Leaving.{calm_unstirred, unstirred}
 use Rattle.flat_slow.specs.Slow.{plain_formula}

@@ -4,9 +4,10 @@ use Rattle.geo_base.specs.Motions.{moved_square}
 use Rattle.geo_base.specs.declared.layer.LayerKey.{LayerKey}
 use Rattle.geo_base.specs.declared.shapes.Square.{Square}
 use Rattle.flat_layout.specs.Layout.{Place, Layer, Cell, Design, Some_of, IsPlaced, IsReached}
-use Rattle.flat_layout.specs.Layout.{InFlatInput, IsDisturbed, Disturbed}
+use Rattle.flat_layout.specs.Layout.{InFlatInput, IsDisturbed}
 use Rattle.flat_layout.specs.Plane.{IsIn}
 use Rattle.flat_layout.specs.Zones.{IsBeside}
+use Rattle.flat_layout.specs.declared.way.Way.TheVariants.{Disturbed}
 use Rattle.flat_slow.specs.declared.design.SlowShape.{SlowShape}
 use Rattle.flat_slow.specs.declared.design.SlowPlace.{SlowPlace}
 use Rattle.flat_slow.specs.declared.design.SlowCell.{SlowCell}

@@ -1,5 +1,5 @@
 -- What a cell keeps of the squares in both of two names.
-use Rattle.std.proofs.Common.{◌≡◌, ◌↔◌, inl, inr, ℕ, pos, ◌+◌, ◌<◌, ◌≤◌, ◌^◌, ◌-ℤ◌, max, true, false, ◌&&◌, ◌||◌, not, List, [], ◌∷◌, ◌++◌, Option, Some, None, length, get_or, slice_index_or, take, refl, sym, ◌∙◌, ap, subst, arith}
+use Rattle.std.proofs.Common.{◌≡◌, ◌↔◌, inl, inr, ℕ, pos, ◌+◌, ◌<◌, ◌≤◌, ◌^◌, ◌-ℤ◌, max, true, false, ◌&&◌, ◌||◌, not, List, [], ◌∷◌, ◌++◌, Option, Some, None, length, get_or, slice_index_or, take, sym, ◌∙◌, ap, subst, arith}
 use Rattle.std.specs.List.{All}
 use Rattle.std.proofs.lemmas.Bool.{false≢true, and_from, or_cases, or_left, or_right, cases_Bool, not-true, and_parts}
 use Rattle.std.proofs.lemmas.Int.{ints}
@@ -12,10 +12,9 @@ use Rattle.rect_sets.specs.Rects.{IsCanonical, covers}
 use Rattle.rect_sets.proofs.Splitting.{covers_append}
 use Rattle.rect_sets.proofs.Unique.{listed_get, rect_of}
 use Rattle.sized_layers.specs.Sizes.{IsSetWithin, IsSquareWithin}
-use Rattle.flat_layout.specs.Layers.{Binary, Formula, IsKept, IsStirred, inputs, reach}
+use Rattle.flat_layout.specs.Layers.{Binary, Formula, IsCalmAt, IsKept, inputs, reach}
 use Rattle.flat_layout.specs.Plane.{AreWithin, IsReachedBy}
 use Rattle.flat_laws.proofs.Moves.{farther}
-use Rattle.flat_laws.proofs.Leaving.{calm_unstirred, unstirred}
 use Rattle.cell_graph.specs.Grown.{IsInGrown}
 use Rattle.cell_graph.specs.Linked.{HullIsSound, IsRectWithin, IsSound, Linked, cell_at, hull_of, plain}
 use Rattle.cell_graph.proofs.Bridge.{has_in, hull_sound, in_has}
@@ -32,7 +31,7 @@ use Rattle.deep_tables.specs.declared.zones.ZoneKey.TheVariants.{Layer}
 use Rattle.gate_search.specs.Gather.{AreMet, IsGatheredAround}
 use Rattle.gate_search.proofs.KeptBoth.{kept_both}
 use Rattle.gate_shapes.specs.Sets.{in_set}
-use Rattle.gate_phase.specs.Both.{AreCalm, AreCalmInBoth, HasNearZone, IsBothNear, IsStirredFor, kept_by}
+use Rattle.gate_phase.specs.Both.{AreCalm, AreCalmInBoth, HasNearZone, IsBothNear, IsOpenFor, kept_by}
 use Rattle.gate_phase.specs.Indexes.{AreMetOf}
 use Rattle.gate_phase.specs.Layer.{IsKeptNear, formula_of}
 use Rattle.gate_phase.proofs.Keeping.{chosen, kept_grown, listed_has, low_in, low_square, one_layer}
@@ -113,33 +112,38 @@ module _ (d : Linked) (r : RuleSet) (z : List (Option CellZones)) (cell : ℕ) (
   M = zone_margin r.names.items
 
   -- entries are near
-  pub near_zone : (name : ℕ) → rules.IsSound (rules_seen r) → IsStirredFor d r z cell name → HasNearZone z cell name
+  pub near_zone : (name : ℕ) → rules.IsSound (rules_seen r) → IsOpenFor d r z cell name → HasNearZone z cell name
   near_zone name ruled s =
       let o = hull_of (cell_at d cell) in
       let most : M ≤ 20001 = let limit = near (rules_seen r) ruled in omega (arith, limit) in (
         s.zone,
         s.is,
-        λ q e. let w = grown_square M o q most (hull_sound d cell sound) ((s.framed q).0 e).1 in
+        λ q e. let w = grown_square M o q most (hull_sound d cell sound) (s.framed.inside q e).0 in
             let a = w.left in let b = w.right in let c = w.low in let f = w.high in
             record { left = omega (arith, ints); right = omega (arith, ints); low = omega (arith, ints); high = omega (arith, ints) },
       )
 
-  -- what disturbs a kept square within a name's reach is in the entry
-  in_zone : (name n : ℕ) (zone : List Rect) (q : Square) → reach (formula_of r name) + n ≤ M → IsStirredFor d r z cell name → zone_of z cell (Layer name) ≡ Some zone → IsInGrown (reach (formula_of r name)) (hull_of (cell_at d cell)) q → IsStirred (plain d) (inputs (formula_of r name)) n cell q
-      → IsReachedBy n (in_set zone) q
-  in_zone name n zone q le s is held stirred =
-      let o = hull_of (cell_at d cell) in let m = reach (formula_of r name) in
-      let same : s.zone ≡ zone = one_layer (zone_of z cell (Layer name)) s.zone zone s.is is in
-      let a = near_square m o q (hull_sound d cell sound) held in
-      let wide = wider_grown (n + m) M o stirred.square (omega (arith, le)) (within_grown (n + m) o stirred.square a.0 a.1 (farther n m stirred.square q a.0 stirred.within a.2)) in
-      record { square = stirred.square; within = stirred.within; has = subst (λ l. in_set l stirred.square) same ((s.framed stirred.square).1 (stirred.disturbed, wide)) }
+  -- near a square of the hull, grown by the name's reach, the entry tells whether all is shut
+  calm_zone : (name n : ℕ) (zone : List Rect) (q : Square) → reach (formula_of r name) + n ≤ M → IsOpenFor d r z cell name → zone_of z cell (Layer name) ≡ Some zone → IsInGrown (reach (formula_of r name)) (hull_of (cell_at d cell)) q
+      → (IsReachedBy n (in_set zone) q → ⊥) ↔ IsCalmAt (plain d) (inputs (formula_of r name)) n cell q
+  calm_zone name n zone q le s is held = (
+    (λ none y near. elim (cases_Bool (covers zone y)) [
+      | inl c ↦ absurd (none (record { square = y; within = near; has = c }))
+      | inr c ↦ s.framed.shut y (inner y near) (ap (λ l. covers l y) same ∙ c)
+    ]),
+    (λ calm h. (s.framed.inside h.square (ap (λ l. covers l h.square) same ∙ h.has)).1 (calm h.square h.within)),
+  )
+    where
+      same : s.zone ≡ zone
+      same = one_layer (zone_of z cell (Layer name)) s.zone zone s.is is
 
-  zone_stirs : (name n : ℕ) (zone : List Rect) (q : Square) → IsStirredFor d r z cell name → zone_of z cell (Layer name) ≡ Some zone → IsReachedBy n (in_set zone) q → IsStirred (plain d) (inputs (formula_of r name)) n cell q
-  zone_stirs name n zone q s is h =
-      let same : zone ≡ s.zone = one_layer (zone_of z cell (Layer name)) zone s.zone is s.is in
-      record { square = h.square; within = h.within; disturbed = ((s.framed h.square).0 (subst (λ l. in_set l h.square) same h.has)).0 }
+      inner : (y : Square) → AreWithin n y q → IsInGrown M (hull_of (cell_at d cell)) y
+      inner y near =
+          let o = hull_of (cell_at d cell) in let m = reach (formula_of r name) in
+          let a = near_square m o q (hull_sound d cell sound) held in
+          wider_grown (n + m) M o y (omega (arith, le)) (within_grown (n + m) o y a.0 a.1 (farther n m y q a.0 near a.2))
 
-  module _ (names : ℕ × ℕ) (one_stirred : IsStirredFor d r z cell names.0) (other_stirred : IsStirredFor d r z cell names.1) (n : ℕ) (far : n ≡ max (reach (formula_of r names.0)) (reach (formula_of r names.1))) where
+  module _ (names : ℕ × ℕ) (one_stirred : IsOpenFor d r z cell names.0) (other_stirred : IsOpenFor d r z cell names.1) (n : ℕ) (far : n ≡ max (reach (formula_of r names.0)) (reach (formula_of r names.1))) where
     abbrev A : Formula
     A = formula_of r names.0
 
@@ -161,8 +165,8 @@ module _ (d : Linked) (r : RuleSet) (z : List (Option CellZones)) (cell : ℕ) (
           (kept_both (plain d) cell A B q).1 (
             (a, b),
             record {
-              first = calm_unstirred (plain d) (inputs A) (max (reach A) (reach B)) cell q (λ s. all.1.0 (in_zone names.0 n h.one q one_room one_stirred h.is_one (kept_grown d cell A q sound a) (subst (λ m. IsStirred (plain d) (inputs A) m cell q) (sym far) s)));
-              second = calm_unstirred (plain d) (inputs B) (max (reach A) (reach B)) cell q (λ s. all.1.1 (in_zone names.1 n h.other q other_room other_stirred h.is_other (kept_grown d cell B q sound b) (subst (λ m. IsStirred (plain d) (inputs B) m cell q) (sym far) s)));
+              first = subst (λ m. IsCalmAt (plain d) (inputs A) m cell q) far ((calm_zone names.0 n h.one q one_room one_stirred h.is_one (kept_grown d cell A q sound a)).0 all.1.0);
+              second = subst (λ m. IsCalmAt (plain d) (inputs B) m cell q) far ((calm_zone names.1 n h.other q other_room other_stirred h.is_other (kept_grown d cell B q sound b)).0 all.1.1);
             },
           )
 
@@ -173,8 +177,8 @@ module _ (d : Linked) (r : RuleSet) (z : List (Option CellZones)) (cell : ℕ) (
           (h.squares q).1 (
             (to_first k.0.0, to_second k.0.1),
             (
-              (λ near. unstirred (plain d) refl (inputs A) (max (reach A) (reach B)) cell q k.1.first (subst (λ m. IsStirred (plain d) (inputs A) m cell q) far (zone_stirs names.0 n h.one q one_stirred h.is_one near))),
-              (λ near. unstirred (plain d) refl (inputs B) (max (reach A) (reach B)) cell q k.1.second (subst (λ m. IsStirred (plain d) (inputs B) m cell q) far (zone_stirs names.1 n h.other q other_stirred h.is_other near))),
+              (calm_zone names.0 n h.one q one_room one_stirred h.is_one (kept_grown d cell A q sound k.0.0)).1 (subst (λ m. IsCalmAt (plain d) (inputs A) m cell q) (sym far) k.1.first),
+              (calm_zone names.1 n h.other q other_room other_stirred h.is_other (kept_grown d cell B q sound k.0.1)).1 (subst (λ m. IsCalmAt (plain d) (inputs B) m cell q) (sym far) k.1.second),
             ),
           )
 

@@ -20,8 +20,7 @@ use Rattle.gate_phase.proofs.Seeding.{flat_grown}
 use Rattle.gate_phase.proofs.Telling.{kept_flat, part_kept}
 use Rattle.deep_tables.specs.declared.zones.CellZones.{CellZones}
 use Rattle.gate_phase.specs.Below.{IsFreeElement}
-use Rattle.gate_phase.specs.Close.{MissesOpen}
-use Rattle.gate_phase.specs.Own.{AddsPart, AreOwnGates, IsHeldPart, IsOwnGate, IsOwnOr, IsToldPart, TellsOwn, gates_in, unit_window}
+use Rattle.gate_phase.specs.Own.{AddsPart, AreOwnGates, IsHeldPart, IsKeptPart, IsOwnGate, IsOwnOr, IsToldPart, TellsOwn, gates_in, unit_window}
 use Rattle.gate_phase.specs.declared.own.OwnGate.{OwnGate}
 
 -- what holds of one square of a part holds of all
@@ -146,16 +145,16 @@ module _ (d : Design) (w : Wiring) (u : Rule) (cell : ℕ) (gathered : List Rect
   }
 
 -- what the tests tell together
-pub told_own : (n : ℕ) (d : Linked) (z : List (Option CellZones)) (cell device : ℕ) (close : List Rect) (least : Square) (window : Rect) (b : Bool) → window ≡ unit_window least → MissesOpen n z cell device close → (b ≡ true) ↔ IsFreeElement n d z cell device close window
-    → TellsOwn n d z cell device close least (not b)
-told_own n d z cell device close least window true e calm told = record {
-  calm = λ f. calm;
+pub told_own : (n : ℕ) (d : Linked) (z : List (Option CellZones)) (cell device : ℕ) (part close : List Rect) (least : Square) (window : Rect) (b : Bool) → window ≡ unit_window least → IsKeptPart n z cell device part close → (b ≡ true) ↔ IsFreeElement n d z cell device part close window
+    → TellsOwn n d z cell device part close least (not b)
+told_own n d z cell device part close least window true e kept told = record {
+  kept = λ f. kept;
   new = λ f. absurd (let g : false ≡ true = f in let n : ⊥ = cc in n);
-  below = λ f miss. subst (IsFreeElement n d z cell device close) e (told.0 refl);
+  below = λ f miss. subst (IsFreeElement n d z cell device part close) e (told.0 refl);
 }
-told_own n d z cell device close least window false e calm told = record {
-  calm = λ f. calm;
-  new = λ f free. let g : false ≡ true = told.1 (subst (IsFreeElement n d z cell device close) (sym e) free) in let n : ⊥ = cc in n;
+told_own n d z cell device part close least window false e kept told = record {
+  kept = λ f. kept;
+  new = λ f free. let g : false ≡ true = told.1 (subst (IsFreeElement n d z cell device part close) (sym e) free) in let n : ⊥ = cc in n;
   below = λ f. absurd (let g : true ≡ false = f in let n : ⊥ = cc in n);
 }
 

@@ -34,9 +34,9 @@ use Rattle.rule_layers.proofs.Reaching.{near as names_near}
 use Rattle.gate_phase.proofs.Reaching.{rule_margin}
 use Rattle.rule_layers.specs.Meaning.{device_rules, wiring_of}
 use Rattle.deep_tables.specs.declared.zones.CellZones.{CellZones}
-use Rattle.deep_tables.specs.Frames.{IsFramedZone, IsInGrown, grown}
+use Rattle.deep_tables.specs.Frames.{IsFramedOpen, IsInGrown, grown}
 use Rattle.deep_tables.specs.Zones.{AreZones}
-use Rattle.deep_tables.proofs.Framing.{framed}
+use Rattle.deep_tables.proofs.Framing.{framed_open}
 use Rattle.deep_tables.proofs.Reading.{device_zone_at}
 use Rattle.gate_phase.specs.Close.{AreOpen, HasOpenBelow}
 use Rattle.gate_phase.specs.Kept.{HoldsNear}
@@ -77,13 +77,13 @@ flat_grown d x cell q sound h =
 pub record IsOpenZone (margin : ℕ) (d : Linked) (keys : List LayerKey) (z : List (Option CellZones)) (cell device : ℕ) : Type 0 where
   pub zone : List Rect
   pub is : AreOpen z cell device zone
-  pub framed : IsFramedZone margin d keys cell zone
+  pub framed : IsFramedOpen margin d keys cell zone
 
 pub open_at : (d : Linked) (r : Rules) (z : List (Option CellZones)) (cell device : ℕ) (u : Rule) → IsSound d → AreZones (plain d) r z → IsReached (plain d) cell → slice_get (device_rules r) device ≡ Some u
     → IsOpenZone (zone_margin r.names) d (gate_inputs (wiring_of r) u) z cell device
 open_at d r z cell device u sound right reached at =
     let h = device_zone_at (plain d) r z cell device u right reached at in
-    let frame = (framed d (gate_inputs (wiring_of r) u) (zone_margin r.names) cell h.0 (sound.hulls.each cell) h.2.canonical).0 h.2 in
+    let frame = (framed_open d (gate_inputs (wiring_of r) u) (zone_margin r.names) cell h.0 (sound.hulls.each cell) h.2.canonical).0 h.2 in
     record { zone = h.0; is = h.1; framed = frame }
 
 pub reached_step : (d : Linked) (cell i row column : ℕ) (p : Place) → IsReached (plain d) cell → IsStep d cell i row column p → IsReached (plain d) p.cell

@@ -11,7 +11,7 @@ use Rattle.cell_graph.specs.Linked.{Linked, IsStep, cell_at, hull_of, motion_at}
 use Rattle.deep_tables.specs.Frames.{IsInGrown, grown}
 use Rattle.deep_tables.specs.declared.zones.CellZones.{CellZones}
 use Rattle.gate_shapes.specs.Sets.{in_set}
-use Rattle.gate_phase.specs.Close.{AreOpen}
+use Rattle.gate_phase.specs.Close.{AreOpen, HasMine}
 
 -- all that the motion takes to the squares that are close lies in the frame, and nothing of the
 -- zone within n of it
@@ -19,19 +19,20 @@ abbrev pub IsFree : ℕ → List Rect → Motion → Rect → List Rect → Type
 IsFree n close m frame zone = (q : Square) → in_set close (moved_square m q)
     → (has frame q ≡ true) × (IsReachedBy n (in_set zone) q → ⊥)
 
--- the same of a cell's grown hull and of what is disturbed there for a device rule that reaches so
--- far
+-- the same of a cell's grown hull and of what the cell leaves for a device rule that reaches so far;
+-- and a square of the part others can't make there
 pub record IsFreeIn (n : ℕ) (d : Linked) (z : List (Option CellZones)) (device : ℕ)
-    (close : List Rect) (cell : ℕ) (m : Motion) : Type 0 where
+    (part close : List Rect) (cell : ℕ) (m : Motion) : Type 0 where
   pub hull : Rect
   pub hull_is : hull_of (cell_at d cell) ≡ Some hull
   pub zone : List Rect
   pub zone_is : AreOpen z cell device zone
   pub free : IsFree n close m (grown (n + 1) hull) zone
+  pub mine : HasMine z cell device (λ q. in_set part (moved_square m q))
 
 -- and so it is in the cell of an element that takes a square of its grown hull to the start
 pub record IsFreeElement (n : ℕ) (d : Linked) (z : List (Option CellZones)) (cell device : ℕ)
-    (close : List Rect) (start : Rect) : Type 0 where
+    (part close : List Rect) (start : Rect) : Type 0 where
   pub index : ℕ
   pub row : ℕ
   pub column : ℕ
@@ -40,4 +41,4 @@ pub record IsFreeElement (n : ℕ) (d : Linked) (z : List (Option CellZones)) (c
   pub square : Square
   pub held : IsInGrown n (hull_of (cell_at d from.cell)) square
   pub met : has start (moved_square (motion_at from row column) square) ≡ true
-  pub free : IsFreeIn n d z device close from.cell (motion_at from row column)
+  pub free : IsFreeIn n d z device part close from.cell (motion_at from row column)

@@ -13,7 +13,7 @@ use Rattle.rule_text.specs.Seen.{rules_seen}
 use Rattle.rule_text.specs.Sound.{IsSound}
 use Rattle.rule_text.specs.declared.rules.RuleSet.{RuleSet}
 use Rattle.rule_layers.specs.Formulas.{formulas, zone_margin}
-use Rattle.deep_tables.specs.Frames.{IsFramedZone}
+use Rattle.deep_tables.specs.Frames.{IsFramedOpen}
 use Rattle.deep_tables.specs.Zones.{zone_of}
 use Rattle.deep_tables.specs.declared.zones.CellZones.{CellZones}
 use Rattle.deep_tables.specs.declared.zones.ZoneKey.TheVariants.{Layer}
@@ -36,12 +36,12 @@ abbrev pub both_of : Inside → BothOf
 both_of a =
     record { design = a.design.now; rules = a.first.rules; cell = a.cell; names = a.names }
 
--- the table has the squares that are disturbed in the cell for the name
-pub record IsStirredFor (d : Linked) (r : RuleSet) (z : List (Option CellZones)) (cell name : ℕ)
+-- the table has the squares that the cell leaves for the name
+pub record IsOpenFor (d : Linked) (r : RuleSet) (z : List (Option CellZones)) (cell name : ℕ)
     : Type 0 where
   pub zone : List Rect
   pub is : zone_of z cell (Layer name) ≡ Some zone
-  pub framed : IsFramedZone (zone_margin r.names.items) d (inputs (formula_of r name)) cell zone
+  pub framed : IsFramedOpen (zone_margin r.names.items) d (inputs (formula_of r name)) cell zone
 
 -- the one name's layer or the other's, of the same cell
 abbrev pub kept_by : Linked → RuleSet → ℕ → ℕ → KeptOf
@@ -51,8 +51,8 @@ pub record IsBothLayer (a : Inside) : Type 0 where
   pub rules : IsSound (rules_seen a.first.rules)
   pub first : a.first ≡ kept_by a.design.now a.first.rules a.cell a.names.0
   pub second : a.second ≡ kept_by a.design.now a.first.rules a.cell a.names.1
-  pub first_zone : IsStirredFor a.design.now a.first.rules a.zones.now a.cell a.names.0
-  pub second_zone : IsStirredFor a.design.now a.first.rules a.zones.now a.cell a.names.1
+  pub first_zone : IsOpenFor a.design.now a.first.rules a.zones.now a.cell a.names.0
+  pub second_zone : IsOpenFor a.design.now a.first.rules a.zones.now a.cell a.names.1
   pub reach : a.reach ≡ max (reach (formula_of a.first.rules a.names.0))
       (reach (formula_of a.first.rules a.names.1))
 
@@ -82,11 +82,11 @@ pub record IsBothNear (x : BothOf) (q : Square) : Type 0 where
       (Binary And (formula_of x.rules x.names.0) (formula_of x.rules x.names.1)) q
   pub near : HasNearCorners q
 
--- the names of a region are there, and where there are two it is known what is disturbed for each
+-- the names of a region are there, and where there are two it is known what the cell leaves for each
 abbrev pub IsReadyRegion : Linked → RuleSet → List (Option CellZones) → ℕ → Region → Type 0
 IsReadyRegion d r z cell (One a) = a < length r.names.items
 IsReadyRegion d r z cell (Both a b) = (a < length r.names.items) × (b < length r.names.items)
-    × IsStirredFor d r z cell a × IsStirredFor d r z cell b
+    × IsOpenFor d r z cell a × IsOpenFor d r z cell b
 
 -- the parts of what is gathered around some squares of what a cell keeps of a formula
 pub record ArePartsAround (d : flat.Design) (cell : ℕ) (x : Formula) (seeds : List Rect)

@@ -20,7 +20,7 @@ use Rattle.gate_search.specs.SearchLaws.{IsTold}
 use Rattle.gate_shapes.specs.Sets.{in_set}
 use Rattle.gate_shapes.specs.Shapes.{IsShapeBy}
 use Rattle.gate_phase.specs.Below.{IsFreeElement}
-use Rattle.gate_phase.specs.Close.{MissesOpen}
+use Rattle.gate_phase.specs.Close.{HasMine, MissesOpen}
 use Rattle.gate_phase.specs.declared.own.OwnGate.{OwnGate}
 
 -- a square that is near enough for a window
@@ -31,13 +31,19 @@ pub record IsUnitNear (s : Square) : Type 0 where
 abbrev pub unit_window : Square → Rect
 unit_window s = record { x1 = s.x; y1 = s.y; x2 = s.x +ℤ pos 1; y2 = s.y +ℤ pos 1 }
 
--- nothing is disturbed here within n of what is close, and through no element is all of it free
+-- the cell leaves nothing within n of what is close, and others can't make all of the part
+pub record IsKeptPart (n : ℕ) (z : List (Option CellZones)) (cell device : ℕ)
+    (part close : List Rect) : Type 0 where
+  pub calm : MissesOpen n z cell device close
+  pub mine : HasMine z cell device (in_set part)
+
+-- the part is kept, and through no element is all of it free
 pub record TellsOwn (n : ℕ) (d : Linked) (z : List (Option CellZones)) (cell device : ℕ)
-    (close : List Rect) (least : Square) (told : Bool) : Type 0 where
-  pub calm : told ≡ true → MissesOpen n z cell device close
-  pub new : told ≡ true → IsFreeElement n d z cell device close (unit_window least) → ⊥
-  pub below : told ≡ false → MissesOpen n z cell device close
-      → IsFreeElement n d z cell device close (unit_window least)
+    (part close : List Rect) (least : Square) (told : Bool) : Type 0 where
+  pub kept : told ≡ true → IsKeptPart n z cell device part close
+  pub new : told ≡ true → IsFreeElement n d z cell device part close (unit_window least) → ⊥
+  pub below : told ≡ false → IsKeptPart n z cell device part close
+      → IsFreeElement n d z cell device part close (unit_window least)
 
 -- the hull, grown by n, holds the part
 abbrev pub IsHeldPart : ℕ → Linked → ℕ → List Rect → Type 0

@@ -10,7 +10,7 @@ ghost use Rattle.gate_phase.specs.Below.{IsFree, IsFreeElement, IsFreeIn};
 ghost use Rattle.gate_phase.specs.Close.{HasOpen};
 ghost use Rattle.gate_phase.specs.Site.{IsReadyDevice};
 
-use crate::close::misses;
+use crate::close::{is_mine, misses};
 use crate::frame::grown_hull;
 use crate::site::DeviceSite;
 use cell_context::{Visit, visits};
@@ -54,22 +54,24 @@ fn is_free(
     }
 }
 
-// Whether all that is close lies in the grown hull of the visit's cell, and nothing is disturbed
-// there within reach of it.
+// Whether all that is close lies in the grown hull of the visit's cell, which leaves nothing within
+// reach of it, and others can't make all of the part there.
 fn is_free_visit(
     alloc: Global,
     at: &DeviceSite,
+    part: &RectSet,
     close: &RectSet,
     visit: &Visit,
 ) -> Result<bool, AllocError>
     requires ready { IsReadyDevice at.now }
+    requires part { IsNearSet part.now }
     requires cell { visit.now.cell < length at.now.site.design.now.cells }
     requires near { IsNearSet close.now }
     requires motion { IsNearMotion visit.now.motion }
     requires zone { HasOpen at.now.site.zones.now visit.now.cell at.now.number }
     ensures { IfOk result (λ b. (b ≡ true)
-        ↔ IsFreeIn at.now.reach at.now.site.design.now at.now.site.zones.now at.now.number close.now
-        visit.now.cell visit.now.motion) }
+        ↔ IsFreeIn at.now.reach at.now.site.design.now at.now.site.zones.now at.now.number part.now
+        close.now visit.now.cell visit.now.motion) }
 {
     let site = &at.site;
     site.design.sound();
@@ -77,32 +79,38 @@ fn is_free_visit(
         Some(hull) => {
             let zone = site.zones.indexed(visit.cell, ZoneKey::Device(at.number));
             let frame = grown_hull(&hull, at.reach + 1);
-            is_free(alloc, close, &visit.motion, &frame, zone, at.reach)
+            if !is_free(alloc, close, &visit.motion, &frame, zone, at.reach)? {
+                return Ok(false);
+            }
+            let there = pulled(alloc, part, &visit.motion)?;
+            is_mine(alloc, &there, site.zones.lone(visit.cell, at.number))
         }
         None => Ok(false),
     }
 }
 
-/// Whether a gate of the cell comes from below, by what is close to it: through some element that
-/// reaches into `start`, a rectangle of the gate.
+/// Whether a gate of the cell comes from below, by its part and what is close to it: through some
+/// element that reaches into `start`, a rectangle of the gate.
 pub fn is_below(
     alloc: Global,
     at: &DeviceSite,
+    part: &RectSet,
     close: &RectSet,
     start: &Rect,
 ) -> Result<bool, AllocError>
     requires ready { IsReadyDevice at.now }
+    requires part { IsNearSet part.now }
     requires near { IsNearSet close.now }
     requires start { IsRectWithin (2 ^ 39) start.now }
     ensures { IfOk result (λ b. (b ≡ true)
         ↔ IsFreeElement at.now.reach at.now.site.design.now at.now.site.zones.now at.now.site.cell
-        at.now.number close.now start.now) }
+        at.now.number part.now close.now start.now) }
 {
     let site = &at.site;
     site.design.sound();
     let list = visits(alloc, site.design, site.cell, start, None, at.reach)?;
     for visit in &list {
-        if is_free_visit(alloc, at, close, visit)? {
+        if is_free_visit(alloc, at, part, close, visit)? {
             return Ok(true);
         }
     }

@@ -6,7 +6,7 @@ ghost use Rattle.rule_text.specs.Seen.{rules_seen};
 ghost use Rattle.rule_text.specs.Sound.{IsSound};
 ghost use Rattle.gate_phase.specs.Indexes.{AreLayersOf};
 ghost use Rattle.sized_layers.specs.Sizes.{IsSetWithin};
-ghost use Rattle.gate_phase.specs.Both.{AreCalm, AreCalmInBoth, HasNearZone, IsStirredFor};
+ghost use Rattle.gate_phase.specs.Both.{AreCalm, AreCalmInBoth, HasNearZone, IsOpenFor};
 
 use crate::device::Region;
 use crate::indexes::IndexedLayers;
@@ -102,8 +102,8 @@ impl<'a, 'l> BothLayer<'a, 'l> {
         requires rules { IsSound (rules_seen rules.now) }
         requires first { names.0 < length rules.now.names.items }
         requires second { names.1 < length rules.now.names.items }
-        requires first_zone { IsStirredFor design.now rules.now zones.now cell names.0 }
-        requires second_zone { IsStirredFor design.now rules.now zones.now cell names.1 }
+        requires first_zone { IsOpenFor design.now rules.now zones.now cell names.0 }
+        requires second_zone { IsOpenFor design.now rules.now zones.now cell names.1 }
         requires layers { AreLayersOf (plain design.now) (rules_seen rules.now) layers.now }
         requires reached { IsReached (plain design.now) cell }
         ensures design { result.design ≡ design.now }

@@ -12,7 +12,7 @@ ghost use Rattle.gate_phase.specs.Own.{TellsOwn, gates_in, unit_window};
 ghost use Rattle.gate_phase.specs.Site.{HasRule, IsReadyDevice, IsToldAt, layout_at, wiring_at};
 
 use crate::below::is_below;
-use crate::close::{close_to, is_undisturbed};
+use crate::close::{close_to, is_mine, is_undisturbed};
 use crate::search::parts_of;
 use crate::shape::shape_in;
 use crate::site::DeviceSite;
@@ -48,21 +48,24 @@ pub fn unit(square: Square) -> Rect
 fn is_own(
     alloc: Global,
     at: &DeviceSite,
+    part: &RectSet,
     close: &RectSet,
     least: Square,
 ) -> Result<bool, AllocError>
     requires ready { IsReadyDevice at.now }
+    requires part { IsNearSet part.now }
     requires near { IsNearSet close.now }
     requires windows { All (IsRectWithin (2 ^ 39)) close.now }
     requires least { IsUnitNear least }
     ensures { IfOk result (TellsOwn at.now.reach at.now.site.design.now at.now.site.zones.now
-        at.now.site.cell at.now.number close.now least) }
+        at.now.site.cell at.now.number part.now close.now least) }
 {
-    if !is_undisturbed(alloc, at, close)? {
+    let lone = at.site.zones.lone(at.site.cell, at.number);
+    if !is_undisturbed(alloc, at, close)? || !is_mine(alloc, part, lone)? {
         return Ok(false);
     }
     let start = unit(least);
-    let below = is_below(alloc, at, close, &start)?;
+    let below = is_below(alloc, at, part, close, &start)?;
     Ok(!below)
 }
 
@@ -82,7 +85,7 @@ fn own_gate(
 {
     at.site.design.sound();
     let close = close_to(alloc, &part)?;
-    if !is_own(alloc, at, &close, least)? {
+    if !is_own(alloc, at, &part, &close, least)? {
         return Ok(None);
     }
     let shape = shape_in(alloc, &at.site, &at.device, &part, &close)?;

@@ -1,4 +1,5 @@
-//! Where gates of a cell's own may begin: at its own shapes, and at what placed cells leave open.
+//! Where gates of a cell's own may begin: at its own shapes, and at what placed cells leave, or others
+//! may make there without them.
 ghost use Rattle.std.specs.Prelude.{◌≡◌, ◌<◌, ◌≤◌, ◌^◌, ℕ, true, length, slice_get, Some, IfOk};
 ghost use Rattle.std.specs.Prelude.{OnOk};
 ghost use Rattle.std.specs.List.{All};
@@ -9,7 +10,7 @@ ghost use Rattle.geo_base.specs.declared.shapes.Square.{Square};
 ghost use Rattle.rect_sets.specs.Near.{IsNearSet};
 ghost use Rattle.rect_sets.specs.Rects.{covers};
 ghost use Rattle.flat_layout.specs.Gates.{Rule, geometry};
-ghost use Rattle.flat_layout.specs.Seeds.{IsNearSeed};
+ghost use Rattle.gate_search.specs.SearchLaws.{HoldSeeds};
 ghost use Rattle.cell_graph.specs.Linked.{IsFrame, IsHull, IsRectWithin, cell_at, own_of};
 ghost use Rattle.cell_graph.specs.Linked.{places_at};
 ghost use Rattle.cell_graph.specs.declared.cells.Place.{Place};
@@ -20,7 +21,7 @@ ghost use Rattle.rule_text.specs.declared.rules.LayerForm.TheVariants.{Input};
 ghost use Rattle.deep_tables.specs.Frames.{grown};
 ghost use Rattle.gate_phase.specs.Close.{HasOpen};
 ghost use Rattle.gate_phase.specs.Kept.{HoldsNear};
-ghost use Rattle.gate_phase.specs.Seeding.{BringsOpen, BringsOwn};
+ghost use Rattle.gate_phase.specs.Seeding.{BringsLone, BringsOpen, BringsOwn};
 ghost use Rattle.gate_phase.specs.Site.{HasRule, IsReadyDevice, layout_at, wiring_at};
 
 use crate::frame::{grown_hull, plane};
@@ -62,8 +63,8 @@ fn push_part(
     Ok(())
 }
 
-// Adds what is disturbed for a device rule in the cell of a reference, in its hull grown so far, by
-// all its elements.
+// Adds what the cell of a reference leaves for a device rule, and what others may make of its
+// regions' layer there, in the cell's hull grown so far, by all its elements.
 fn push_reference(
     alloc: Global,
     out: &mut Vec<Rect>,
@@ -83,13 +84,20 @@ fn push_reference(
     ensures grows { OnOk result (Grows out.old.items out.new.items) }
     ensures brings { OnOk result (BringsOpen by at.now.site.design.now at.now.site.zones.now
         at.now.number place.now plane.now out.new.items) }
+    ensures lone { OnOk result (BringsLone by at.now.site.design.now at.now.site.zones.now
+        at.now.number place.now plane.now out.new.items) }
 {
     let site = &at.site;
     site.design.sound();
     match site.design.hull(place.cell) {
         Some(hull) => {
-            let zone = site.zones.disturbed(place.cell, ZoneKey::Device(at.number));
-            push_part(alloc, out, place, &grown_hull(&hull, by), zone, plane)
+            let below = grown_hull(&hull, by);
+            let zone = site.zones.left(place.cell, ZoneKey::Device(at.number));
+            push_part(alloc, out, place, &below, zone, plane)?;
+            match site.zones.lone(place.cell, at.number) {
+                Some(lone) => push_part(alloc, out, place, &below, lone, plane),
+                None => Ok(()),
+            }
         }
         None => Ok(()),
     }
@@ -111,7 +119,8 @@ fn push_references(
     ensures brings { OnOk result ((i : ℕ) (p : Place)
         → slice_get (places_at (cell_at at.now.site.design.now at.now.site.cell)) i ≡ Some p
         → BringsOpen by at.now.site.design.now at.now.site.zones.now at.now.number p plane.now
-        out.new.items) }
+        out.new.items × BringsLone by at.now.site.design.now at.now.site.zones.now at.now.number p
+        plane.now out.new.items) }
 {
     let site = &at.site;
     site.design.sound();
@@ -180,9 +189,8 @@ fn push_all_own(
 pub fn seeds_of(alloc: Global, at: &DeviceSite) -> Result<RectSet, AllocError>
     requires ready { IsReadyDevice at.now }
     ensures near { IfOk result IsNearSet }
-    ensures all { IfOk result (λ s. (u : Rule) → HasRule at.now u → (q : Square)
-        → IsNearSeed (layout_at at.now.site) (geometry (wiring_at at.now.site) u) at.now.site.cell q
-        → covers s q ≡ true) }
+    ensures all { IfOk result (λ s. (u : Rule) → HasRule at.now u
+        → HoldSeeds (layout_at at.now.site) (geometry (wiring_at at.now.site) u) at.now.site.cell s) }
 {
     let site = &at.site;
     site.design.sound();

@@ -12,7 +12,8 @@ use Rattle.flat_layout.specs.Layout.{Design}
 use Rattle.flat_layout.specs.Parts.{IsStep, InPart}
 use Rattle.flat_layout.specs.Plane.{IsAround}
 use Rattle.flat_layout.specs.Seeds.{IsNearSeed, IsClosed}
-use Rattle.flat_laws.proofs.Found.{kept_part, closed, parted, unfound}
+use Rattle.flat_laws.proofs.Found.{kept_part, closed, unfound}
+use Rattle.flat_laws.proofs.Opens.{unfound_open}
 use Rattle.gate_shapes.specs.Sets.{in_set}
 use Rattle.gate_shapes.proofs.Joined.{step_back}
 use Rattle.gate_shapes.proofs.PartsOf.{end_in}
@@ -28,8 +29,12 @@ module _ (d : Design) (g : Geometry) (cell : ℕ) (seeds found : List Rect) (par
   is_closed : IsClosed d g cell (covers found)
   is_closed = record { kept = h.gathered.sound; steps = h.gathered.steps }
 
-  seeds_found : (a q : Square) → K a → IsAround a q → IsNearSeed d g cell q → covers found a ≡ true
-  seeds_found a q k around seed = h.gathered.around a q k around (h.all q seed)
+  -- a settled gate that wasn't found comes from below
+  missed : (s : Square) → IsSettled d g cell s → (covers found s ≡ true → ⊥) → IsGateBelow d g cell s
+  missed s settled not = elim h.all [
+    | inl all ↦ unfound d g h.sound cell (covers found) h.reached is_closed (λ a q k around seed. h.gathered.around a q k around (all q seed)) s settled not
+    | inr l ↦ unfound_open d g cell l.0 (covers found) h.sound h.reached is_closed l.1 (λ a q k around seed. h.gathered.around a q k around (l.2 q seed)) s settled not
+  ]
 
   -- a part by any of its squares
   from_any : (i : ℕ) (part : List Rect) (s : Square) → slice_get parts i ≡ Some part → in_set part s → (q : Square) → in_set part q ↔ InPart F s q
@@ -82,12 +87,15 @@ module _ (d : Design) (g : Geometry) (cell : ℕ) (seeds found : List Rect) (par
 
   pub known : ((i : ℕ) (part : List Rect) (s : Square) → slice_get parts i ≡ Some part → in_set part s → IsSettled d g cell s → IsListedGate d g cell s ⊎ IsGateBelow d g cell s)
       → (s : Square) → IsSettled d g cell s → IsListedGate d g cell s ⊎ IsGateBelow d g cell s
-  known judged = parted d g cell (covers found) h.sound h.reached is_closed seeds_found (λ s e settled. let p = part_of s e in judged p.0 p.1 s p.2 p.3 settled)
+  known judged s settled = elim (true_or_not (covers found s)) [
+    | inl e ↦ (let p = part_of s e in judged p.0 p.1 s p.2 p.3 settled)
+    | inr not ↦ inr (missed s settled not)
+  ]
 
   pub own_found : (s : Square) → IsListedGate d g cell s → (i : ℕ) × (part : List Rect) × (slice_get parts i ≡ Some part) × in_set part s
   own_found s own = elim (true_or_not (covers found s)) [
     | inl e ↦ part_of s e
-    | inr not ↦ absurd (own.new (unfound d g h.sound cell (covers found) h.reached is_closed seeds_found s own.settled not))
+    | inr not ↦ absurd (own.new (missed s own.settled not))
   ]
 
 pub part_law : PartLaw

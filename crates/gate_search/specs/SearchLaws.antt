@@ -1,5 +1,5 @@
 -- From seeds to a cell's own gates.
-use Rattle.std.specs.Prelude.{◌≡◌, ◌⊎◌, ◌↔◌, ℕ, List, Some, slice_get}
+use Rattle.std.specs.Prelude.{◌≡◌, ◌⊎◌, ◌↔◌, ℕ, Bool, List, Some, slice_get}
 use Rattle.geo_base.specs.declared.shapes.Rect.{Rect}
 use Rattle.geo_base.specs.declared.shapes.Square.{Square}
 use Rattle.flat_layout.specs.Gates.{Geometry, InGate, IsSettled, IsGateBelow, IsListedGate}
@@ -8,17 +8,24 @@ use Rattle.flat_layout.specs.Layers.{IsCalmAt, IsKept, IsLone}
 use Rattle.flat_layout.specs.Layout.{Design, IsReached}
 use Rattle.flat_layout.specs.Parts.{IsCloseTo}
 use Rattle.flat_layout.specs.Seeds.{IsNearSeed}
+use Rattle.flat_laws.specs.SeedLaws.{AreLeft, IsNearOpen}
 use Rattle.gate_shapes.specs.PartLists.{AreParts}
 use Rattle.gate_shapes.specs.Sets.{in_set}
 use Rattle.gate_search.specs.Gather.{IsGatheredAround}
 
--- the seeds hold all squares near which gates may begin, and the parts are those of what was
--- gathered around them
+-- all squares near which gates may begin: by what disturbs placed cells, or by what these leave and
+-- others may make there without them
+abbrev pub HoldSeeds : Design → Geometry → ℕ → List Rect → Type 0
+HoldSeeds d g cell seeds = ((q : Square) → IsNearSeed d g cell q → in_set seeds q)
+    ⊎ ((left : ℕ → Square → Bool) × AreLeft d g cell left
+    × ((q : Square) → IsNearOpen d g left cell q → in_set seeds q))
+
+-- the seeds hold these, and the parts are those of what was gathered around them
 pub record IsSearch (d : Design) (g : Geometry) (cell : ℕ) (seeds found : List Rect)
     (parts : List (List Rect)) : Type 0 where
   pub sound : IsSoundGeometry g
   pub reached : IsReached d cell
-  pub all : (q : Square) → IsNearSeed d g cell q → in_set seeds q
+  pub all : HoldSeeds d g cell seeds
   pub gathered : IsGatheredAround (IsKept d cell g.region) seeds found
   pub parted : AreParts found parts
 

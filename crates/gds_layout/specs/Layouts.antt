@@ -12,6 +12,8 @@ use Rattle.cell_graph.specs.declared.drafts.CellDraft.{CellDraft}
 use Rattle.cell_graph.specs.declared.drafts.LinkFault.{LinkFault}
 use Rattle.cell_graph.specs.declared.drafts.LinkFault.TheVariants.{NoMemory as NoMemoryInLinks}
 use Rattle.cell_graph.specs.Drafts.{IsLink, IsFault}
+use Rattle.cell_graph.specs.Linked.{keeping}
+use Rattle.flat_layout.specs.declared.way.Way.{Way}
 use Rattle.gds_layout.specs.declared.layout.Header.{Header}
 use Rattle.gds_layout.specs.declared.layout.Layout.{Layout}
 use Rattle.gds_layout.specs.declared.layout.LayoutFault.{LayoutFault}
@@ -99,3 +101,12 @@ pub record IsRestOf (rest : Rest) (d : Drawn) : Type 0 where
   pub taken : List Cell
   pub drawn : AreDrawn taken d
   pub accepted : IsAccepted (library_after taken rest)
+
+-- the same layout, whose cells keep squares in this way
+abbrev pub kept_as : Way → Layout → Layout
+kept_as way l = record l { design = keeping way l.design }
+
+-- it is as much what the stream holds
+abbrev pub KeptReadLaw : Type 0
+KeptReadLaw = (way : Way) (bytes : List ℕ) (top : Option (List ℕ)) (l : Layout) → IsRead bytes top l
+    → IsRead bytes top (kept_as way l)

@@ -5,6 +5,7 @@ ghost use Rattle.gds_layout.specs.Causes.{of_links, of_stream};
 ghost use Rattle.gds_layout.specs.declared.layout.LayoutFault.TheVariants.{NoMemory};
 
 use cell_graph::{Design, LinkFault};
+use flat_layout::Way;
 use gds_elements::GdsFault;
 use std::alloc::AllocError;
 use thiserror::Error;
@@ -27,6 +28,26 @@ pub struct Layout {
     pub header: Header,
     pub cell_dates: Vec<[u8; 24]>,
     pub design: Design,
+}
+
+impl Layout {
+    ghost use Rattle.gds_layout.specs.Layouts.{kept_as};
+
+    /// The same layout, whose cells keep squares in this way. O(1).
+    pub fn keeping(self, way: Way) -> Layout
+        ensures { result ≡ kept_as way self }
+    {
+        let Layout {
+            header,
+            cell_dates,
+            design,
+        } = self;
+        Layout {
+            header,
+            cell_dates,
+            design: design.keeping(way),
+        }
+    }
 }
 
 /// Why a stream isn't read as a layout. Want of memory is always `NoMemory` and never stands within

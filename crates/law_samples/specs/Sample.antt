@@ -7,10 +7,11 @@ use Rattle.geo_base.specs.declared.shapes.Rect.{Rect}
 use Rattle.flat_layout.specs.Expanded.{CircuitTables}
 use Rattle.flat_layout.specs.Gates.{Rule}
 use Rattle.flat_layout.specs.Layers.{Input}
-use Rattle.flat_layout.specs.Layout.{Place, Cell, Design, Disturbed}
+use Rattle.flat_layout.specs.Layout.{Place, Cell, Design}
 use Rattle.flat_layout.specs.Nets.{Own, Child, CellNets, Tables}
 use Rattle.flat_layout.specs.Pins.{CellPins}
 use Rattle.flat_layout.specs.Regions.{Wiring}
+use Rattle.flat_layout.specs.declared.way.Way.TheVariants.{Disturbed}
 use Rattle.plain_netlist.specs.Netlist.{Circuit, Netlist}
 
 abbrev pub metal : LayerKey

@@ -12,10 +12,11 @@ use Rattle.flat_layout.specs.Expanded.{CircuitTables}
 use Rattle.flat_layout.specs.Gates.{Rule}
 use Rattle.flat_layout.specs.GateTables.{GateEntry, GateRow, Good}
 use Rattle.flat_layout.specs.Layers.{Formula, Input, Empty, Binary}
-use Rattle.flat_layout.specs.Layout.{Place, Layer, Text, Cell, Design, Disturbed}
+use Rattle.flat_layout.specs.Layout.{Place, Layer, Text, Cell, Design}
 use Rattle.flat_layout.specs.Nets.{Own, Child, Global, CellNets, Tables}
 use Rattle.flat_layout.specs.Pins.{CellPins}
 use Rattle.flat_layout.specs.Regions.{Wiring}
+use Rattle.flat_layout.specs.declared.way.Way.TheVariants.{Disturbed}
 use Rattle.plain_netlist.specs.declared.kinds.DeviceKind.TheVariants.{Mos4}
 use Rattle.plain_netlist.specs.Devices.{Both}
 use Rattle.plain_netlist.specs.Netlist.{Circuit, DeviceRow, Netlist}

@@ -4,13 +4,9 @@ use Rattle.base_laws.proofs.Tests.{not_both}
 use Rattle.std.proofs.lemmas.Bool.{cases_Bool}
 use Rattle.geo_base.specs.declared.shapes.Square.{Square}
 use Rattle.rect_sets.specs.Rects.{covers}
-use Rattle.flat_layout.specs.Layers.{Formula, Input, Empty, Binary, Sized, inputs, reach, InFlat, IsCalmAt, IsDecided, IsKeptBelow, IsKept, IsLocal, IsStirred}
-use Rattle.flat_layout.specs.Layout.{InFlatInput, IsPlaced, Place}
-use Rattle.flat_layout.specs.Plane.{AreWithin}
+use Rattle.flat_layout.specs.Layers.{Formula, Input, Empty, Binary, Sized, inputs, reach, InFlat, IsCalmAt, IsKeptBelow, IsKept, IsLocal}
 use Rattle.flat_laws.proofs.Moves.{within_back}
 use Rattle.flat_laws.proofs.Names.{near_input}
-use Rattle.flat_laws.proofs.Leaving.{calm_unstirred, unstirred}
-use Rattle.geo_base.specs.declared.layer.LayerKey.{LayerKey}
 use Rattle.cell_graph.specs.Grown.{IsInGrown}
 use Rattle.cell_graph.specs.Linked.{Linked, IsSound, hull_of, cell_at, plain}
 use Rattle.cell_graph.proofs.Bridge.{hulls, hull_sound}
@@ -20,7 +16,7 @@ use Rattle.deep_laws.proofs.Layers.{candidate, below, keeps, calm_kept, new_loca
 use Rattle.layer_phase.specs.Around.{around}
 use Rattle.layer_phase.specs.Parts.{IsFromCalmHull, HaveZones, LayerLaw}
 use Rattle.layer_phase.proofs.Around.{rects_of}
-use Rattle.layer_phase.proofs.Stirring.{stirred_around}
+use Rattle.layer_phase.proofs.Stirring.{calm_around}
 
 split_local : (f z c : Bool) → ((f && not z) && not c) ≡ true → (f ≡ true) × (z ≡ false) × (c ≡ false)
 split_local true false false e = (refl, refl, refl)
@@ -31,24 +27,17 @@ split_local false z c e = let g : false ≡ true = e in absurd (let z : ⊥ = cc
 join_local : (f z c : Bool) → f ≡ true → z ≡ false → c ≡ false → ((f && not z) && not c) ≡ true
 join_local f z c e g h = ap (λ b. (b && not z) && not c) e ∙ ap (λ b. (true && not b) && not c) g ∙ ap (λ b. (true && not false) && not b) h
 
--- round the shapes of placed cells the tables tell what is stirred
-pub told_below : (n : ℕ) (d : Linked) (name : Formula) (cell : ℕ) → reach name + reach name ≤ n → IsSound d → HaveZones n d name cell → (k : ℕ) (p : Place) (key : LayerKey) (z r : Square) → IsPlaced (plain d) cell k p → InFlatInput (plain d) p.cell key z
-    → AreWithin (reach name) z r → IsDecided (IsStirred (plain d) (inputs name) (reach name) p.cell r)
-told_below n d name cell twice sound zones k p key z r placed flat near =
+-- round the shapes of placed cells the tables tell where all is shut
+pub decided : (n : ℕ) (d : Linked) (name : Formula) (cell : ℕ) → reach name + reach name ≤ n → IsSound d → HaveZones n d name cell → AreDecidedBelow (plain d) cell name
+decided n d name cell twice sound zones k p key z r placed flat near =
     let e = zones k p placed in
     let m = reach name in
     let inner = within_grown m (hull_of (cell_at d p.cell)) r z (hulls d sound p.cell key z flat) (within_back m z r near) in
-    let is = stirred_around m n d (inputs name) p.cell e.0 r twice e.1 (rects_of e.0 e.2) (hull_sound d p.cell sound) inner in
+    let is = calm_around m n d (inputs name) p.cell e.0 r twice e.1 (rects_of e.0 e.2) (hull_sound d p.cell sound) inner in
     elim (cases_Bool (covers (around m e.0) r)) [
-      | inl c ↦ inl (is.0 c)
-      | inr c ↦ inr (λ h. not_both (covers (around m e.0) r) (is.1 h) c)
+      | inl c ↦ inr (λ calm. not_both (covers (around m e.0) r) c (is.1 calm))
+      | inr c ↦ inl (is.0 c)
     ]
-
-decided : (n : ℕ) (d : Linked) (name : Formula) (cell : ℕ) → reach name + reach name ≤ n → IsSound d → HaveZones n d name cell → AreDecidedBelow (plain d) cell name
-decided n d name cell twice sound zones k p key z r placed flat near = elim (told_below n d name cell twice sound zones k p key z r placed flat near) [
-  | inl h ↦ inr (λ calm. unstirred (plain d) refl (inputs name) (reach name) p.cell r calm h)
-  | inr none ↦ inl (calm_unstirred (plain d) (inputs name) (reach name) p.cell r none)
-]
 
 kept_flat : (d : Linked) (cell : ℕ) (name : Formula) (q : Square) → IsKept (plain d) cell name q → InFlat (plain d) cell name q
 kept_flat d cell (Input key) q h = h
@@ -85,13 +74,10 @@ layer n d name cell places flat zone calm local derived twice sound reached zone
     calm_below q f h = (below (plain d) name cell q derived reached f).1 (record { number = h.number; place = h.place; square = h.square; placed = h.placed; calm = h.calm; image = h.image })
 
     calm_zone : (q : Square) → covers zone q ≡ false → InFlat (plain d) cell name q → IsCalmAt (plain d) (inputs name) (reach name) cell q
-    calm_zone q e f = calm_unstirred (plain d) (inputs name) (reach name) cell q (λ h. not_both (covers zone q) ((parts.zones q (near_held d cell name q sound f)).1 h) e)
+    calm_zone q e f = (parts.zones q (near_held d cell name q sound f)).0 e
 
     zone_off : (q : Square) → InFlat (plain d) cell name q → IsCalmAt (plain d) (inputs name) (reach name) cell q → covers zone q ≡ false
-    zone_off q f calm = elim (cases_Bool (covers zone q)) [
-      | inl e ↦ absurd (unstirred (plain d) refl (inputs name) (reach name) cell q calm ((parts.zones q (near_held d cell name q sound f)).0 e))
-      | inr e ↦ e
-    ]
+    zone_off q f calm = (parts.zones q (near_held d cell name q sound f)).1 calm
 
     to : (q : Square) → covers local q ≡ true → IsLocal (plain d) cell name q
     to q e =

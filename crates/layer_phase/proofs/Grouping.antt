@@ -27,7 +27,7 @@ use Rattle.rule_text.specs.declared.rules.LayerRule.{LayerRule}
 use Rattle.rule_layers.specs.Formulas.{formula_by, formulas, formulas_behind, zone_margin}
 use Rattle.rule_layers.proofs.Reaching.{near, reach_in, reach_law}
 use Rattle.deep_tables.specs.declared.zones.CellZones.{CellZones}
-use Rattle.deep_tables.specs.Frames.{IsFramedZone}
+use Rattle.deep_tables.specs.Frames.{IsFramedOpen}
 use Rattle.layer_phase.specs.Groups.{AreDone, AreGroups, AreGroupsTo, ArePlain, Finds, HasReach, IsGroup, IsMember, is_derived}
 use Rattle.layer_phase.specs.declared.groups.Group.{Group}
 use Rattle.layer_phase.specs.Keeps.{IsZoneAt}
@@ -114,9 +114,9 @@ framed_within m (Some w) zone most sound h = set_within (2 ^ 39) (grown m w) zon
 
 pub zone_within : (d : Linked) (r : Rules) (z : List (Option CellZones)) (cell name : ℕ) (x : Formula) (zone : List Rect) → IsSound d → IsReady d r z cell → IsDerived x → slice_get (formulas r.names) name ≡ Some x → IsZoneAt z cell name zone → IsSetWithin (2 ^ 39) zone
 zone_within d r z cell name x zone sound ready derived at entry =
-    let frame : IsFramedZone (zone_margin r.names) d (inputs x) cell zone = entry_frame d r z cell name x zone ready derived at entry in
+    let frame : IsFramedOpen (zone_margin r.names) d (inputs x) cell zone = entry_frame d r z cell name x zone ready derived at entry in
     let far = near r ready.rules in
-    framed_within (zone_margin r.names) (hull_of (cell_at d cell)) zone (omega (arith, far)) (hull_sound d cell sound) (λ q e. ((frame q).0 e).1)
+    framed_within (zone_margin r.names) (hull_of (cell_at d cell)) zone (omega (arith, far)) (hull_sound d cell sound) (λ q e. (frame.inside q e).0)
 
 -- one layer put in its place
 put_here : (xs : List (List Rect)) (k : ℕ) (v : List Rect) → k < length xs → get_or (slice_set xs k v) k [] ≡ v

@@ -7,17 +7,16 @@ use Rattle.geo_base.specs.Motions.{moved_square}
 use Rattle.geo_base.specs.declared.shapes.Square.{Square}
 use Rattle.rect_sets.specs.Rects.{covers, IsCanonical}
 use Rattle.flat_layout.specs.Arrays.{place_at}
-use Rattle.flat_layout.specs.Layers.{Formula, inputs, reach, IsCalmAt, IsStirred}
+use Rattle.flat_layout.specs.Layers.{Formula, inputs, reach, IsCalmAt}
 use Rattle.flat_layout.specs.Layout as flat
 use Rattle.flat_layout.specs.Layout.{IsReached}
 use Rattle.flat_laws.proofs.Cover.{reached_below}
-use Rattle.flat_laws.proofs.Leaving.{calm_unstirred, unstirred}
 use Rattle.cell_graph.specs.declared.cells.Place.{Place}
 use Rattle.cell_graph.specs.Linked.{Linked, IsStep, hull_of, cell_at, plain, reference}
 use Rattle.cell_graph.proofs.Bridge.{hull_sound, step_of, placed_of}
 use Rattle.deep_tables.specs.declared.zones.CellZones.{CellZones}
-use Rattle.deep_tables.specs.Frames.{IsFramedZone, IsInGrown}
-use Rattle.deep_tables.proofs.Framing.{framed}
+use Rattle.deep_tables.specs.Frames.{IsFramedOpen, IsInGrown}
+use Rattle.deep_tables.proofs.Framing.{framed_open}
 use Rattle.deep_tables.proofs.Reading.{zone_at, zone_entry}
 use Rattle.deep_tables.specs.Zones.{AreZones}
 use Rattle.rule_layers.specs.Formulas.{formulas, zone_margin}
@@ -27,7 +26,7 @@ use Rattle.layer_phase.specs.Parts.{IsFromCalmHull}
 use Rattle.layer_phase.specs.Keeps.{HaveEntries, IsKeptBy, IsZoneAt}
 use Rattle.layer_phase.specs.Bridge.{KeptLaw}
 use Rattle.layer_phase.proofs.Around.{rects_of}
-use Rattle.layer_phase.proofs.Stirring.{stirred_around}
+use Rattle.layer_phase.proofs.Stirring.{calm_around}
 
 reached_step : (d : Linked) (cell i row column : ℕ) (p : Place) → IsReached (plain d) cell → IsStep d cell i row column p → IsReached (plain d) p.cell
 reached_step d cell i row column p reached step = reached_below (plain d) cell _ (place_at (reference p) row column) reached (placed_of d cell i row column p step)
@@ -46,28 +45,28 @@ kept d r z x cell name sound hulls right reached named asked twice = record {
   kept = λ q. (to q, from q);
 }
   where
-    at : (e : ℕ) → IsReached (plain d) e → (zone : List Rect) × IsZoneAt z e name zone × IsFramedZone (zone_margin r.names) d (inputs x) e zone × IsCanonical zone
+    at : (e : ℕ) → IsReached (plain d) e → (zone : List Rect) × IsZoneAt z e name zone × IsFramedOpen (zone_margin r.names) d (inputs x) e zone × IsCanonical zone
     at e there =
         let h = zone_at (plain d) r z e name x right there named asked in
-        (h.0, h.1, (framed d (inputs x) (zone_margin r.names) e h.0 (hulls e there) h.2.canonical).0 h.2, h.2.canonical)
+        (h.0, h.1, (framed_open d (inputs x) (zone_margin r.names) e h.0 (hulls e there) h.2.canonical).0 h.2, h.2.canonical)
 
-    stirred : (e : ℕ) (zone : List Rect) (s : Square) → IsFramedZone (zone_margin r.names) d (inputs x) e zone → IsCanonical zone → IsInGrown (reach x) (hull_of (cell_at d e)) s
-        → (covers (around (reach x) zone) s ≡ true) ↔ IsStirred (plain d) (inputs x) (reach x) e s
-    stirred e zone s frame canonical inner = stirred_around (reach x) (zone_margin r.names) d (inputs x) e zone s twice frame (rects_of zone canonical) (hull_sound d e sound) inner
+    calm_by : (e : ℕ) (zone : List Rect) (s : Square) → IsFramedOpen (zone_margin r.names) d (inputs x) e zone → IsCanonical zone → IsInGrown (reach x) (hull_of (cell_at d e)) s
+        → (covers (around (reach x) zone) s ≡ false) ↔ IsCalmAt (plain d) (inputs x) (reach x) e s
+    calm_by e zone s frame canonical inner = calm_around (reach x) (zone_margin r.names) d (inputs x) e zone s twice frame (rects_of zone canonical) (hull_sound d e sound) inner
 
     to : (q : Square) → IsKeptBy (reach x) d z cell name q → IsFromCalmHull d x cell q
     to q h =
         let e = at h.from.cell (reached_step d cell h.index h.row h.column h.from reached h.step) in
         let same : e.0 ≡ h.entry = one_entry z h.from.cell name e.0 h.entry e.1 h.at in
         let off : covers (around (reach x) e.0) h.square ≡ false = subst (λ (v : List Rect). covers (around (reach x) v) h.square ≡ false) (sym same) h.off in
-        let is = stirred h.from.cell e.0 h.square e.2 e.3 h.held in
+        let is = calm_by h.from.cell e.0 h.square e.2 e.3 h.held in
         record {
           number = _;
           place = place_at (reference h.from) h.row h.column;
           square = h.square;
           placed = placed_of d cell h.index h.row h.column h.from h.step;
           held = h.held;
-          calm = calm_unstirred (plain d) (inputs x) (reach x) h.from.cell h.square (λ g. not_both (covers (around (reach x) e.0) h.square) (is.1 g) off);
+          calm = is.0 off;
           image = h.image;
         }
 
@@ -77,7 +76,7 @@ kept d r z x cell name sound hulls right reached named asked twice = record {
         let e = at t.from.cell (reached_step d cell t.index t.row t.column t.from reached t.step) in
         let calm : IsCalmAt (plain d) (inputs x) (reach x) t.from.cell h.square = subst (λ (y : flat.Place). IsCalmAt (plain d) (inputs x) (reach x) y.cell h.square) t.is h.calm in
         let held : IsInGrown (reach x) (hull_of (cell_at d t.from.cell)) h.square = subst (λ (y : flat.Place). IsInGrown (reach x) (hull_of (cell_at d y.cell)) h.square) t.is h.held in
-        let is = stirred t.from.cell e.0 h.square e.2 e.3 held in
+        let is = calm_by t.from.cell e.0 h.square e.2 e.3 held in
         record {
           index = t.index;
           row = t.row;
@@ -88,9 +87,6 @@ kept d r z x cell name sound hulls right reached named asked twice = record {
           held = held;
           entry = e.0;
           at = e.1;
-          off = elim (cases_Bool (covers (around (reach x) e.0) h.square)) [
-            | inl c ↦ absurd (unstirred (plain d) refl (inputs x) (reach x) t.from.cell h.square calm (is.0 c))
-            | inr c ↦ c
-          ];
+          off = is.1 calm;
           image = ap (λ (y : flat.Place). moved_square y.motion h.square) (sym t.is) ∙ h.image;
         }

@@ -1,16 +1,16 @@
 -- The parts of which a cell's layer is made.
-use Rattle.std.specs.Prelude.{◌≡◌, ◌⊎◌, ◌↔◌, ℕ, ◌+◌, ◌≤◌, true, ◌&&◌, not, List}
+use Rattle.std.specs.Prelude.{◌≡◌, ◌⊎◌, ◌↔◌, ℕ, ◌+◌, ◌≤◌, true, false, ◌&&◌, not, List}
 use Rattle.geo_base.specs.declared.layer.LayerKey.{LayerKey}
 use Rattle.geo_base.specs.declared.shapes.Rect.{Rect}
 use Rattle.geo_base.specs.declared.shapes.Square.{Square}
 use Rattle.geo_base.specs.Motions.{moved_square}
 use Rattle.rect_sets.specs.Rects.{covers, IsCanonical}
-use Rattle.flat_layout.specs.Layers.{Formula, Input, inputs, reach, InFlat, IsCalmAt, IsStirred}
+use Rattle.flat_layout.specs.Layers.{Formula, Input, inputs, reach, InFlat, IsCalmAt}
 use Rattle.flat_layout.specs.Layout.{IsReached, IsPlaced, Place}
 use Rattle.flat_layout.specs.Values.{IsLocalLayer}
 use Rattle.cell_graph.specs.Linked.{Linked, IsSound, hull_of, cell_at, own_of, plain}
 use Rattle.deep_laws.specs.Layers.{IsDerived, IsNearOwn, IsFromOpen}
-use Rattle.deep_tables.specs.Frames.{IsFramedZone, IsInGrown}
+use Rattle.deep_tables.specs.Frames.{IsFramedOpen, IsInGrown}
 
 -- a square of a placed cell's hull, grown by a name's reach, near which all is shut there comes to
 -- q
@@ -33,14 +33,14 @@ pub record AreParts (d : Linked) (name : Formula) (cell : ℕ) (places flat zone
   pub flats : (q : Square) → (covers flat q ≡ true) ↔ ((covers places q ≡ true)
       × InFlat (plain d) cell name q)
   pub zones : (q : Square) → IsInGrown (reach name) (hull_of (cell_at d cell)) q
-      → (covers zone q ≡ true) ↔ IsStirred (plain d) (inputs name) (reach name) cell q
+      → (covers zone q ≡ false) ↔ IsCalmAt (plain d) (inputs name) (reach name) cell q
   pub calms : (q : Square) → covers places q ≡ true → (covers calm q ≡ true)
       ↔ IsFromCalmHull d name cell q
 
 -- the placed cells have their disturbed squares, in their hulls grown by n
 abbrev pub HaveZones : ℕ → Linked → Formula → ℕ → Type 0
 HaveZones n d name cell = (k : ℕ) (p : Place) → IsPlaced (plain d) cell k p → (zone : List Rect)
-    × IsFramedZone n d (inputs name) p.cell zone × IsCanonical zone
+    × IsFramedOpen n d (inputs name) p.cell zone × IsCanonical zone
 
 -- flat squares among those looked at, without those near which something is disturbed and those
 -- that placed cells keep: the cell's layer. The disturbed squares of placed cells count twice as

@@ -86,7 +86,7 @@ fn push_disturbed(
 {
     match form {
         LayerForm::Input(_) => {
-            let zone = zones.disturbed(cell, ZoneKey::Layer(name));
+            let zone = zones.left(cell, ZoneKey::Layer(name));
             out.extend_from_slice(zone.rects())
         }
         _ => Ok(()),

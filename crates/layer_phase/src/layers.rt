@@ -105,7 +105,7 @@ fn derived_layer(
     work.design.sound();
     let _rects = looks.rects();
     let calm = calm_squares(alloc, work, name, looks, far)?;
-    let zone = work.zones.disturbed(work.cell, ZoneKey::Layer(name));
+    let zone = work.zones.left(work.cell, ZoneKey::Layer(name));
     let squares = seen(alloc, flat, looks, far)?;
     let local = undisturbed(alloc, squares, zone, &calm, far)?;
     let _canonical = local.rects();

@@ -43,7 +43,7 @@ fn disturbed_of(
     if !marked {
         return Ok(set);
     }
-    let zone = zones.disturbed(cell, ZoneKey::Layer(name));
+    let zone = zones.left(cell, ZoneKey::Layer(name));
     shared(alloc, set, zone)
 }
 

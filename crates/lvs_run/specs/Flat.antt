@@ -17,6 +17,7 @@ use Rattle.rule_layers.specs.Meaning.{device_rules, wiring_of}
 use Rattle.lvs_run.specs.Words.{Outputs, Paths, ToNetlist, ForNetlist, ForShapes}
 use Rattle.lvs_run.specs.Answers.{Answer, Good, Bad, IsVerdict}
 use Rattle.flat_layout.specs.declared.cause.GateCause.{GateCause}
+use Rattle.rule_layers.specs.Meaning.{way_of}
 
 -- the list has a file of this path, and this is a fact of its text
 abbrev pub ListsAs : List File → List ℕ → (List ℕ → Type 0) → Type 0
@@ -41,6 +42,7 @@ pub record IsOfRead (rules stream : List ℕ) (top : Option (List ℕ)) (P : Lay
   pub meant : Means rules rule_set
   pub layout : Layout
   pub read : IsRead stream top layout
+  pub way : layout.design.way ≡ way_of rule_set
   pub is : P layout rule_set
 
 -- the same of the told files, the rules' first; nothing is said where one isn't told

@@ -31,6 +31,7 @@ use Rattle.lvs_run.specs.Answers.{made, Answer, Good, Bad, comparison_answer}
 use Rattle.lvs_run.specs.Answers.{RefusedWords, RefusedSame, RefusedAbsent, RefusedLong}
 use Rattle.lvs_run.specs.Answers.{RefusedRules, RefusedLayout, RefusedSchematic}
 use Rattle.lvs_run.specs.Answers.{RefusedWide, RefusedMergedLayout, RefusedMergedSchematic}
+use Rattle.rule_layers.specs.Meaning.{way_of}
 
 -- the words state a command of these paths, and no file that it writes is named twice
 pub record Runs (said : Option Paths) (p : Paths) : Type 0 where
@@ -58,6 +59,7 @@ pub record ReadsLayout (said : Option Paths) (file : List ℕ → Told) (p : Pat
   pub bytes : List ℕ
   pub held : HasFile file p.layout bytes
   pub read : IsRead bytes p.top l
+  pub way : l.design.way ≡ way_of r
 
 -- the stream's first fault, or the first of its cells' names and references; no want of memory
 abbrev pub IsFirstLayoutFault : List ℕ → Option (List ℕ) → LayoutFault → Type 0

@@ -18,6 +18,7 @@ ghost use Rattle.spice_text.specs.Means.{Means as SpiceMeans, SaysFirst};
 
 use crate::input::{Stop, feed_input, read_input};
 use crate::status::Refusal;
+use flat_layout::Way;
 use gds_layout::{Layout, LayoutFault, LayoutReader};
 use job_board::{Crew, Gate};
 use lvs_outside::Depot;
@@ -71,7 +72,7 @@ pub fn layout_stop(fault: LayoutFault) -> Stop
 }
 
 /// The layout of the path's file, from the cell of this name, or from the only one that none refers
-/// to. The file is read in pieces, of which none is kept, to its end or past the limit before its
+/// to; its cells keep squares in this way. The file is read in pieces, of which none is kept, to its end or past the limit before its
 /// fault is answered. An `Err` is as that of `rules_of`. Cost: the file's bytes, and linking its
 /// cells.
 pub fn layout_of<D: Depot>(
@@ -79,8 +80,10 @@ pub fn layout_of<D: Depot>(
     depot: &mut D,
     path: &String,
     top: &Option<Name>,
+    way: Way,
 ) -> Result<Layout, Stop>
     requires { HasRoom (D.state depot.old) }
+    ensures way { IfOk result (λ l. l.design.way ≡ way) }
     ensures quiet { Quiet (D.state depot.old) (D.state depot.new) }
     ensures found { IfOk result (λ l. ReadAs (D.state depot.old) (D.state depot.new)
         (string_bytes path.now) (λ bytes. IsRead bytes top.now l)) }
@@ -90,7 +93,7 @@ pub fn layout_of<D: Depot>(
     let mut reader = LayoutReader::new(alloc);
     feed_input(alloc, depot, path, &mut reader)?;
     match reader.finish(alloc, top.as_ref()) {
-        Ok(layout) => Ok(layout),
+        Ok(layout) => Ok(layout.keeping(way)),
         Err(fault) => Err(layout_stop(fault)),
     }
 }

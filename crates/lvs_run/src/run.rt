@@ -32,6 +32,7 @@ use lvs_outside::{Depot, Sink, write_all, write_files};
 use lvs_words::WordFault;
 use netlist_file::flat_netlist;
 use report_file::read_alignable;
+use rule_layers::way_of;
 use rule_text::RuleSet;
 use shapes_file::covers_flat;
 use std::alloc::Global;
@@ -100,7 +101,7 @@ fn prepare_task<R: Threads + Wait + Sync, D: Depot, G: Gate + Sync>(
         None => {}
     }
     let rule_set = rules_of(alloc, depot, &rules)?;
-    let design = layout_of(alloc, depot, &layout, &top)?;
+    let design = layout_of(alloc, depot, &layout, &top, way_of(&rule_set))?;
     let crew = Crew::new(rt, workers, gate);
     match outputs {
         Outputs::Layout(outputs) => {

@@ -11,6 +11,8 @@ use Rattle.plain_netlist.specs.declared.kinds.DeviceKind.TheVariants.{Mos4, Resi
 use Rattle.flat_layout.specs.Layers.{Formula, Empty, Binary}
 use Rattle.flat_layout.specs.Regions.{Wiring, Line, Label}
 use Rattle.flat_layout.specs.Gates.{Rule}
+use Rattle.flat_layout.specs.declared.way.Way.{Way}
+use Rattle.flat_layout.specs.declared.way.Way.TheVariants.{Disturbed, Covered}
 use Rattle.rule_text.specs.declared.rules.LayerForm.{LayerForm}
 use Rattle.rule_text.specs.declared.rules.LayerForm.TheVariants as form
 use Rattle.rule_text.specs.declared.rules.LayerRule.{LayerRule}
@@ -20,6 +22,10 @@ use Rattle.rule_text.specs.declared.rules.MoreRule.TheVariants as more
 use Rattle.rule_text.specs.Rules.{Rules, has_texts}
 use Rattle.rule_text.specs.Reading.{is_conductor}
 use Rattle.rule_layers.specs.Formulas.{formulas}
+
+-- which squares cells keep
+abbrev pub way_of : Rules → Way
+way_of r = if r.covered then Covered else Disturbed
 
 -- what each name reads as a conductor, k being the first name's number: nothing where it is none
 abbrev pub conductor_formulas : Rules → ℕ → List Formula → List Formula

@@ -10,9 +10,11 @@ ghost use Rattle.rule_layers.specs.Laws.{ReachLaw, ReachInLaw, NearLaw, GateReac
 
 mod margin;
 mod reads;
+mod way;
 
 pub use margin::zone_margin;
 pub use reads::{mark_operands, read_names};
+pub use way::way_of;
 
 /// Conductors are read as their names; grounds are known globals; a device's terminals are
 /// conductors.

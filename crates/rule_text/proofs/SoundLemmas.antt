@@ -17,7 +17,7 @@ use Rattle.rule_text.specs.declared.rules.Output.{Output}
 use Rattle.rule_text.specs.declared.rules.MosRule.{MosRule}
 use Rattle.rule_text.specs.declared.rules.MoreRule.{MoreRule}
 use Rattle.rule_text.specs.declared.rules.MoreRule.TheVariants as more
-use Rattle.rule_text.specs.Rows.{is_string, Form, Input, Labels, Empty, Binary, Sized, Mos, More, Resistor, Diode, Statement, Define, Draw, Connect, Global, Extract, Further, Same, FlattenLayout, FlattenSchematic, FlattenUnmatched, SamePins, Combine, MaxGuesses, Accepted}
+use Rattle.rule_text.specs.Rows.{is_string, Form, Input, Labels, Empty, Binary, Sized, Mos, More, Resistor, Diode, Statement, Define, Draw, Connect, Global, Extract, Further, Same, FlattenLayout, FlattenSchematic, FlattenUnmatched, SamePins, KeepCovered, Combine, MaxGuesses, Accepted}
 use Rattle.rule_text.specs.Rules.{Rules, no_rules, names_of, place_of, is_defined, is_text_rule, has_texts, is_labels, operands_of, uses_of, reach_of, is_far, is_twice, is_misplaced, statement_fault, numbered, mos_rule, further_rule, class_in, has_class, mos_classes, more_classes, named, drawn, extracting, going_on, paired, names_layout, names_schematic, flattening_layout, flattening_schematic, with_statement}
 use Rattle.geo_base.specs.Layers.{IsStreamKey, is_same_key}
 use Rattle.rule_text.specs.Filled.{IsFilled, IsFilledForm, IsString, class_of}
@@ -469,6 +469,30 @@ pins_more r h = record {
   guesses = h.guesses;
 }
 
+covered_more : (r : Rules) → IsFormed r → IsFormed (with_statement r KeepCovered)
+covered_more r h = record {
+  names = h.names;
+  operands = h.operands;
+  near = h.near;
+  keys = h.keys;
+  outputs = h.outputs;
+  written = h.written;
+  connects = h.connects;
+  globals = h.globals;
+  classes = h.classes;
+  others = h.others;
+  apart = h.apart;
+  strings = h.strings;
+  more_strings = h.more_strings;
+  devices = h.devices;
+  more = h.more;
+  layouts = h.layouts;
+  schematics = h.schematics;
+  flat_layouts = h.flat_layouts;
+  flat_schematics = h.flat_schematics;
+  guesses = h.guesses;
+}
+
 combine_more : (r : Rules) → IsFormed r → IsFormed (with_statement r Combine)
 combine_more r h = record {
   names = h.names;
@@ -537,6 +561,7 @@ by_tests r (FlattenLayout a) used near fresh plain filled h = flat_layout_more r
 by_tests r (FlattenSchematic b) used near fresh plain filled h = flat_schematic_more r b fresh h
 by_tests r FlattenUnmatched used near fresh plain filled h = unmatched_more r h
 by_tests r SamePins used near fresh plain filled h = pins_more r h
+by_tests r KeepCovered used near fresh plain filled h = covered_more r h
 by_tests r Combine used near fresh plain filled h = combine_more r h
 by_tests r (MaxGuesses n) used near fresh plain filled h = guesses_more r n filled h
 by_tests r Accepted used near fresh plain filled h = h

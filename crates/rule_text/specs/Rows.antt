@@ -34,7 +34,7 @@ abbrev pub statement_words : List (List ℕ)
 statement_words =
     codes "connect" ∷ codes "connect_global" ∷ codes "extract_devices" ∷ codes "same_circuits"
     ∷ codes "max_guesses" ∷ codes "flatten_unmatched" ∷ codes "same_pins"
-    ∷ codes "combine_devices" ∷ codes "deep" ∷ codes "netlist" ∷ codes "align" ∷ codes "compare"
+    ∷ codes "keep_covered" ∷ codes "combine_devices" ∷ codes "deep" ∷ codes "netlist" ∷ codes "align" ∷ codes "compare"
     ∷ codes "schematic" ∷ codes "input" ∷ codes "labels" ∷ codes "polygon_layer"
     ∷ codes "output" ∷ codes "mos4" ∷ codes "resistor_with_bulk" ∷ codes "diode" ∷ []
 
@@ -215,6 +215,10 @@ unmatched_row = Key (codes "flatten_unmatched") ∷ []
 abbrev pub pins_row : List Slot
 pins_row = Key (codes "same_pins") ∷ []
 
+-- keep_covered
+abbrev pub covered_row : List Slot
+covered_row = Key (codes "keep_covered") ∷ []
+
 -- combine_devices
 abbrev pub combine_row : List Slot
 combine_row = Key (codes "combine_devices") ∷ []
@@ -262,6 +266,7 @@ pub data Statement : Type 0 where
   FlattenSchematic : (b : List ℕ) → Statement
   FlattenUnmatched : Statement
   SamePins : Statement
+  KeepCovered : Statement
   Combine : Statement
   MaxGuesses : (n : ℕ) → Statement
   Accepted : Statement
@@ -332,12 +337,13 @@ is_accepted ts =
     || fits (Key (codes "align") ∷ []) ts || fits (Key (codes "compare") ∷ []) ts
     || fits schematic_row ts
 
--- what only the comparison reads, and what changes nothing
+-- what only the comparison reads, which squares cells keep, and what changes nothing
 unfoldable pub setting_of : List Token → Option Statement
 setting_of ts =
     if fits same_row ts then Some (Same (word_at 2 ts) (word_at 4 ts))
     else if fits guesses_row ts then Some (MaxGuesses (unwrap_or (guesses_of (word_at 2 ts)) 0))
     else if fits pins_row ts then Some SamePins
+    else if fits covered_row ts then Some KeepCovered
     else if fits combine_row ts then Some Combine
     else if is_accepted ts then Some Accepted
     else None

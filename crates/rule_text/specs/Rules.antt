@@ -23,7 +23,8 @@ use Rattle.rule_text.specs.declared.fault.RuleFault.TheVariants.{NotConductor, T
 use Rattle.rule_text.specs.Rows.{Form, Input, Labels, Empty, Binary, Sized, Mos, Statement, Define}
 use Rattle.rule_text.specs.Rows.{Draw, Connect, Global, Extract, Further, More, Resistor, Diode, Same}
 use Rattle.rule_text.specs.Rows.{MaxGuesses, Accepted, EQUALS, DOT}
-use Rattle.rule_text.specs.Rows.{FlattenLayout, FlattenSchematic, FlattenUnmatched, SamePins, Combine}
+use Rattle.rule_text.specs.Rows.{FlattenLayout, FlattenSchematic, FlattenUnmatched, SamePins}
+use Rattle.rule_text.specs.Rows.{KeepCovered, Combine}
 use Rattle.rule_text.specs.Rows.{is_name, is_statement_word, definition_of, wiring_of}
 use Rattle.rule_text.specs.Rows.{flattening_of, setting_of}
 use Rattle.rule_text.specs.Filled.{class_of}
@@ -43,6 +44,7 @@ pub record Rules : Type 0 where
   pub flat_schematics : List (List ℕ)
   pub flattens_unmatched : Bool
   pub tells_pins : Bool
+  pub covered : Bool
   pub combine : Bool
   pub max_guesses : ℕ
 
@@ -60,6 +62,7 @@ no_rules = record {
   flat_schematics = [];
   flattens_unmatched = false;
   tells_pins = false;
+  covered = false;
   combine = false;
   max_guesses = 1000;
 }
@@ -124,6 +127,7 @@ uses_of (FlattenLayout a) = []
 uses_of (FlattenSchematic b) = []
 uses_of FlattenUnmatched = []
 uses_of SamePins = []
+uses_of KeepCovered = []
 uses_of Combine = []
 uses_of (MaxGuesses n) = []
 uses_of Accepted = []
@@ -167,6 +171,7 @@ is_twice r (FlattenLayout a) = names_layout r (folded_bytes a)
 is_twice r (FlattenSchematic b) = names_schematic r (folded_bytes b)
 is_twice r FlattenUnmatched = r.flattens_unmatched
 is_twice r SamePins = r.tells_pins
+is_twice r KeepCovered = r.covered
 is_twice r Combine = false
 is_twice r (MaxGuesses n) = false
 is_twice r Accepted = false
@@ -281,6 +286,7 @@ with_statement r (FlattenLayout a) = flattening_layout r a
 with_statement r (FlattenSchematic b) = flattening_schematic r b
 with_statement r FlattenUnmatched = record r { flattens_unmatched = true }
 with_statement r SamePins = record r { tells_pins = true }
+with_statement r KeepCovered = record r { covered = true }
 with_statement r Combine = record r { combine = true }
 with_statement r (MaxGuesses n) = record r { max_guesses = n }
 with_statement r Accepted = r

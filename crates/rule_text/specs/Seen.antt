@@ -75,6 +75,7 @@ statement (found.FlattenLayout a) = rows.FlattenLayout a.now
 statement (found.FlattenSchematic b) = rows.FlattenSchematic b.now
 statement found.FlattenUnmatched = rows.FlattenUnmatched
 statement found.SamePins = rows.SamePins
+statement found.KeepCovered = rows.KeepCovered
 statement found.Combine = rows.Combine
 statement (found.MaxGuesses n) = rows.MaxGuesses n
 statement found.Accepted = rows.Accepted
@@ -96,6 +97,7 @@ rules_seen r = record {
   flat_schematics = r.flat_schematics.items;
   flattens_unmatched = r.flattens_unmatched;
   tells_pins = r.tells_pins;
+  covered = r.covered;
   combine = r.combine;
   max_guesses = r.max_guesses;
 }

@@ -87,6 +87,7 @@ impl<'a> Statement<'a> {
             Statement::FlattenSchematic(_) => Ok(Vec::new(alloc)),
             Statement::FlattenUnmatched => Ok(Vec::new(alloc)),
             Statement::SamePins => Ok(Vec::new(alloc)),
+            Statement::KeepCovered => Ok(Vec::new(alloc)),
             Statement::Combine => Ok(Vec::new(alloc)),
             Statement::MaxGuesses(_) => Ok(Vec::new(alloc)),
             Statement::Accepted => Ok(Vec::new(alloc)),
@@ -211,6 +212,7 @@ impl Reader {
             flat_schematics: Vec::new(alloc),
             flattens_unmatched: false,
             tells_pins: false,
+            covered: false,
             combine: false,
             max_guesses: 1000,
         };
@@ -332,6 +334,7 @@ impl Reader {
             )?.bytes())),
             Statement::FlattenUnmatched => Ok(self.rules.flattens_unmatched),
             Statement::SamePins => Ok(self.rules.tells_pins),
+            Statement::KeepCovered => Ok(self.rules.covered),
             _ => Ok(false),
         }
     }
@@ -617,6 +620,10 @@ impl Reader {
             }
             Statement::SamePins => {
                 self.rules.tells_pins = true;
+                Ok(())
+            }
+            Statement::KeepCovered => {
+                self.rules.covered = true;
                 Ok(())
             }
             Statement::Combine => {

@@ -70,6 +70,7 @@ pub enum Statement<'a> {
     FlattenSchematic(&'a [u8]),
     FlattenUnmatched,
     SamePins,
+    KeepCovered,
     Combine,
     MaxGuesses(u32),
     Accepted,
@@ -185,6 +186,9 @@ const FLATTEN_UNMATCHED: [Slot; 1] = [Key(b"flatten_unmatched")];
 // same_pins
 const SAME_PINS: [Slot; 1] = [Key(b"same_pins")];
 
+// keep_covered
+const KEEP_COVERED: [Slot; 1] = [Key(b"keep_covered")];
+
 // combine_devices
 const COMBINE: [Slot; 1] = [Key(b"combine_devices")];
 
@@ -299,6 +303,9 @@ pub fn setting_of<'a>(tokens: &[Token<'a>]) -> Option<Statement<'a>>
     }
     if fits(&SAME_PINS, tokens) {
         return Some(Statement::SamePins);
+    }
+    if fits(&KEEP_COVERED, tokens) {
+        return Some(Statement::KeepCovered);
     }
     if fits(&COMBINE, tokens) {
         return Some(Statement::Combine);

@@ -78,6 +78,7 @@ pub struct RuleSet {
     pub flat_schematics: Vec<Name>,
     pub flattens_unmatched: bool,
     pub tells_pins: bool,
+    pub covered: bool,
     pub combine: bool,
     pub max_guesses: u32,
 }
@@ -97,6 +98,7 @@ impl Drop for RuleSet {
             flat_schematics: _,
             flattens_unmatched: _,
             tells_pins: _,
+            covered: _,
             combine: _,
             max_guesses: _,
         } = self;

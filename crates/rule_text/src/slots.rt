@@ -67,6 +67,7 @@ pub fn is_statement_word(word: &[u8]) -> bool
             b"max_guesses",
             b"flatten_unmatched",
             b"same_pins",
+            b"keep_covered",
             b"combine_devices",
             b"deep",
             b"netlist",

@@ -7,6 +7,7 @@ use Rattle.geo_base.specs.declared.shapes.Rect.{Rect}
 use Rattle.flat_layout.specs.Arrays.{Reference, place_at, row_places, array_places, places_of}
 use Rattle.flat_layout.specs.Layout as flat
 use Rattle.flat_layout.specs.Layout.{IsPlaced}
+use Rattle.flat_layout.specs.declared.way.Way.TheVariants.{Disturbed}
 use Rattle.gds_elements.specs.Meaning.{Ref}
 use Rattle.gds_shapes.specs.References.{reference_read}
 use Rattle.cell_graph.specs.Linked.{Linked, plain, plain_cell, cell_at, places_at, reference}
@@ -37,7 +38,7 @@ cell_drawn d r table ks k = record {
 }
 
 abbrev pub design_drawn : Linked → Rules → List (Option CellLayers) → List ℕ → flat.Design
-design_drawn d r table ks = record { cells = map (cell_drawn d r table ks) ks; top = position ks d.top; way = flat.Disturbed }
+design_drawn d r table ks = record { cells = map (cell_drawn d r table ks) ks; top = position ks d.top; way = Disturbed }
 
 -- ---- placements with other numbers
 

@@ -12,6 +12,7 @@ use Rattle.rect_sets.specs.Rects.{OneListLaw, covers}
 use Rattle.flat_layout.specs.Layout as flat
 use Rattle.flat_layout.specs.Layers.{Formula}
 use Rattle.flat_layout.specs.Values.{IsLocalLayer}
+use Rattle.flat_layout.specs.declared.way.Way.TheVariants.{Disturbed}
 use Rattle.cell_graph.specs.declared.cells.Place.{Place}
 use Rattle.cell_graph.specs.declared.cells.CellPart.{CellPart}
 use Rattle.cell_graph.specs.Linked.{Linked, plain, plain_cell, cell_at, places_at}
@@ -112,8 +113,8 @@ plain_map (x ∷ xs) (y ∷ ys) e =
 -- designs whose cells draw and place the same are one plain layout
 pub same_plain : (d e : Linked) → map contents d.cells ≡ map contents e.cells → d.top ≡ e.top → plain d ≡ plain e
 same_plain d e cells top =
-    ap (λ (cs : List flat.Cell). let f : flat.Design = record { cells = cs; top = d.top; way = flat.Disturbed } in f) (plain_map d.cells e.cells cells)
-    ∙ ap (λ (t : ℕ). let f : flat.Design = record { cells = map plain_cell e.cells; top = t; way = flat.Disturbed } in f) top
+    ap (λ (cs : List flat.Cell). let f : flat.Design = record { cells = cs; top = d.top; way = Disturbed } in f) (plain_map d.cells e.cells cells)
+    ∙ ap (λ (t : ℕ). let f : flat.Design = record { cells = map plain_cell e.cells; top = t; way = Disturbed } in f) top
 
 -- what is written of a cell
 pub record IsSameAt (a b : Option CellPart) : Type 0 where

@@ -24,6 +24,7 @@ use lvs_run::{Refusal, layout_of, refusal_line, rules_of, schematic_of};
 use lvs_words::WordFault;
 use pair_jobs::Verdict;
 use report_file::read_alignable;
+use rule_layers::way_of;
 use std::alloc::{AllocError, Global};
 use std::sync::Wait;
 use std::thread::Threads;
@@ -104,7 +105,7 @@ fn prepare<R: Threads + Wait + Sync, D: Depot, G: Gate + Sync>(
         Ok(rules) => rules,
         Err(stop) => return Err(run_stop(stop)),
     };
-    let layout = match layout_of(alloc, depot, &task.layout, &task.top) {
+    let layout = match layout_of(alloc, depot, &task.layout, &task.top, way_of(&rules)) {
         Ok(layout) => layout,
         Err(stop) => return Err(run_stop(stop)),
     };

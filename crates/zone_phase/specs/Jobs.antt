@@ -9,23 +9,20 @@ use Rattle.cell_graph.specs.declared.cells.Place.{Place}
 use Rattle.cell_graph.specs.Linked.{Linked, IsStep}
 use Rattle.deep_tables.specs.declared.zones.CellZones.{CellZones}
 use Rattle.deep_tables.specs.Frames.{IsFramedZone}
+pub use Rattle.deep_tables.specs.Zones.{HasName, disturbed_in}
 use Rattle.deep_tables.specs.Entries.{downward_cell}
 use Rattle.zone_phase.specs.declared.uses.Use.{Use}
 use Rattle.zone_phase.specs.Neighbours.{WhyHere}
 
--- a name's squares of an entry
+-- what an entry says lies over its cell on a name's input layer
 abbrev pub zone_in : Option CellZones → ℕ → List Rect
 zone_in None name = []
-zone_in (Some v) name = get_or v.layers.items name []
-
--- the entry has squares for the name of this number
-abbrev pub HasName : ℕ → CellZones → Type 0
-HasName name v = name < length v.layers.items
+zone_in (Some v) name = disturbed_in v name
 
 -- and these are the cell's disturbed squares for the key, in its hull grown by n
 abbrev pub IsEntry : ℕ → Linked → LayerKey → ℕ → ℕ → CellZones → Type 0
 IsEntry n d key name cell v = HasName name v
-    × IsFramedZone n d (key ∷ []) cell (get_or v.layers.items name [])
+    × IsFramedZone n d (key ∷ []) cell (disturbed_in v name)
 
 -- the entries of the references' jobs have the name's squares
 abbrev pub HaveEntries : ℕ → Linked → (ℕ → Option CellZones) → LayerKey → ℕ → List Use → Type 0

@@ -8,3 +8,4 @@ pub mod Pulls
 pub mod Siblings
 pub mod Steps
 pub mod Uses
+pub mod Lone

@@ -1,4 +1,5 @@
--- The disturbed squares of a cell for the names of the rules.
+-- What lies over a cell from elsewhere on the input layers, and what it leaves for the names of the
+-- rules.
 use Rattle.std.specs.Prelude.{◌≡◌, ℕ, List, [], ◌∷◌, ◌++◌, map, length, Option, Some, get_or}
 use Rattle.std.specs.Prelude.{slice_get}
 use Rattle.geo_base.specs.declared.layer.LayerKey.{LayerKey}
@@ -12,15 +13,38 @@ use Rattle.rule_text.specs.declared.rules.MoreRule.{MoreRule}
 use Rattle.rule_text.specs.declared.rules.MoreRule.TheVariants as more
 use Rattle.rule_text.specs.Rules.{Rules}
 use Rattle.deep_tables.specs.declared.zones.CellZones.{CellZones}
-use Rattle.deep_tables.specs.Frames.{IsFramedZone}
+use Rattle.deep_tables.specs.Frames.{IsFramedZone, IsFramedOpen}
 use Rattle.zone_phase.specs.declared.uses.Use.{Use}
 use Rattle.zone_phase.specs.Jobs.{HaveEntries}
 
--- each tree's set is the cell's disturbed squares for what it reads, in the hull grown by n; past
--- the end both are empty
-abbrev pub AreNameZones : ℕ → Linked → ℕ → List Formula → List (List Rect) → Type 0
-AreNameZones n d cell trees sets = (k : ℕ)
-    → IsFramedZone n d (inputs (get_or trees k Empty)) cell (get_or sets k [])
+-- what lies over the cell on a name's input layer, in the hull grown by n; nothing of other names
+abbrev pub IsFormZone : ℕ → Linked → ℕ → LayerForm → List Rect → Type 0
+IsFormZone n d cell (form.Input key) v = IsFramedZone n d (key ∷ []) cell v
+IsFormZone n d cell _ v = v ≡ []
+
+-- the same of all names, by their trees
+pub record AreInputZones (n : ℕ) (d : Linked) (cell : ℕ) (trees : List Formula)
+    (sets : List (List Rect)) : Type 0 where
+  pub count : length sets ≡ length trees
+  pub zones : (k : ℕ) (key : LayerKey) → slice_get trees k ≡ Some (Input key)
+      → IsFramedZone n d (key ∷ []) cell (get_or sets k [])
+
+-- what of it the cell leaves
+abbrev pub IsFormOpen : ℕ → Linked → ℕ → LayerForm → List Rect → Type 0
+IsFormOpen n d cell (form.Input key) v = IsFramedOpen n d (key ∷ []) cell v
+IsFormOpen n d cell _ v = v ≡ []
+
+pub record AreInputOpens (n : ℕ) (d : Linked) (cell : ℕ) (trees : List Formula)
+    (sets : List (List Rect)) : Type 0 where
+  pub count : length sets ≡ length trees
+  pub opens : (k : ℕ) (key : LayerKey) → slice_get trees k ≡ Some (Input key)
+      → IsFramedOpen n d (key ∷ []) cell (get_or sets k [])
+
+-- each tree's set is what the cell leaves for what it reads, in the hull grown by n; past the end both
+-- are empty
+abbrev pub AreNameOpens : ℕ → Linked → ℕ → List Formula → List (List Rect) → Type 0
+AreNameOpens n d cell trees sets = (k : ℕ)
+    → IsFramedOpen n d (inputs (get_or trees k Empty)) cell (get_or sets k [])
 
 -- where the name is an input layer, the entries of the references' jobs have its squares
 abbrev pub HaveForm : ℕ → Linked → (ℕ → Option CellZones) → ℕ → List Use → LayerForm → Type 0
@@ -51,9 +75,9 @@ abbrev pub names_inputs : List Formula → List ℕ → List LayerKey
 names_inputs trees [] = []
 names_inputs trees (k ∷ ks) = inputs (get_or trees k Empty) ++ names_inputs trees ks
 
--- for each list of names the set is the cell's disturbed squares for what they read
-pub record AreDeviceZones (n : ℕ) (d : Linked) (cell : ℕ) (trees : List Formula)
+-- for each list of names the set is what the cell leaves for what they read
+pub record AreDeviceOpens (n : ℕ) (d : Linked) (cell : ℕ) (trees : List Formula)
     (lists : List (List ℕ)) (sets : List (List Rect)) : Type 0 where
   pub count : length sets ≡ length lists
-  pub zones : (k : ℕ) (names : List ℕ) (set : List Rect) → slice_get lists k ≡ Some names
-      → slice_get sets k ≡ Some set → IsFramedZone n d (names_inputs trees names) cell set
+  pub opens : (k : ℕ) (names : List ℕ) (set : List Rect) → slice_get lists k ≡ Some names
+      → slice_get sets k ≡ Some set → IsFramedOpen n d (names_inputs trees names) cell set

@@ -1,12 +1,12 @@
-//! A cell's disturbed squares for each device rule.
+//! The squares that a cell leaves for each device rule.
 ghost use Rattle.std.specs.Prelude.{◌≡◌, ◌++◌, ℕ, List, IfOk, OnOk, map};
 ghost use Rattle.std.specs.List.{All};
 ghost use Rattle.cell_graph.specs.Linked.{Linked};
-ghost use Rattle.deep_tables.specs.Frames.{IsFramedZone};
+ghost use Rattle.deep_tables.specs.Frames.{IsFramedOpen};
 ghost use Rattle.flat_layout.specs.Layers.{Formula};
 ghost use Rattle.rect_sets.specs.Rects.{IsCanonical};
 ghost use Rattle.rule_text.specs.Seen.{rules_seen};
-ghost use Rattle.zone_phase.specs.Names.{AreDeviceZones, AreNameZones, device_names};
+ghost use Rattle.zone_phase.specs.Names.{AreDeviceOpens, AreNameOpens, device_names};
 ghost use Rattle.zone_phase.specs.Names.{further_names, mos_names, names_inputs};
 
 use crate::names::push_set;
@@ -18,8 +18,8 @@ use std::alloc::{AllocError, Global};
 // The union for some names.
 fn names_zone(alloc: Global, sets: &[RectSet], names: &[u32]) -> Result<RectSet, AllocError>
     ensures { IfOk result (λ r. (n : ℕ) (d : Linked) (cell : ℕ)
-        (trees : List Formula) → AreNameZones n d cell trees sets.now
-        → IsFramedZone n d (names_inputs trees names.now) cell r) }
+        (trees : List Formula) → AreNameOpens n d cell trees sets.now
+        → IsFramedOpen n d (names_inputs trees names.now) cell r) }
 {
     let [name, more @ ..] = names else {
         return Ok(RectSet::empty(alloc));
@@ -31,8 +31,8 @@ fn names_zone(alloc: Global, sets: &[RectSet], names: &[u32]) -> Result<RectSet,
 
 fn further_zone(alloc: Global, sets: &[RectSet], rule: &MoreRule) -> Result<RectSet, AllocError>
     ensures { IfOk result (λ r. (n : ℕ) (d : Linked) (cell : ℕ)
-        (trees : List Formula) → AreNameZones n d cell trees sets.now
-        → IsFramedZone n d (names_inputs trees (further_names rule.now)) cell r) }
+        (trees : List Formula) → AreNameOpens n d cell trees sets.now
+        → IsFramedOpen n d (names_inputs trees (further_names rule.now)) cell r) }
 {
     match rule {
         MoreRule::Resistor {
@@ -56,9 +56,9 @@ fn push_mos_zones(
 ) -> Result<(), AllocError>
     requires { All IsCanonical zones.old.items }
     ensures zones { OnOk result ((n : ℕ) (d : Linked) (cell : ℕ) (trees : List Formula)
-        (lists : List (List ℕ)) → AreNameZones n d cell trees sets.now
-        → AreDeviceZones n d cell trees lists zones.old.items
-        → AreDeviceZones n d cell trees (lists ++ map mos_names rules.now) zones.new.items) }
+        (lists : List (List ℕ)) → AreNameOpens n d cell trees sets.now
+        → AreDeviceOpens n d cell trees lists zones.old.items
+        → AreDeviceOpens n d cell trees (lists ++ map mos_names rules.now) zones.new.items) }
     ensures canonical { OnOk result (All IsCanonical zones.new.items) }
 {
     for rule in rules {
@@ -78,9 +78,9 @@ fn push_further_zones(
 ) -> Result<(), AllocError>
     requires { All IsCanonical zones.old.items }
     ensures zones { OnOk result ((n : ℕ) (d : Linked) (cell : ℕ) (trees : List Formula)
-        (lists : List (List ℕ)) → AreNameZones n d cell trees sets.now
-        → AreDeviceZones n d cell trees lists zones.old.items
-        → AreDeviceZones n d cell trees (lists ++ map further_names rules.now) zones.new.items) }
+        (lists : List (List ℕ)) → AreNameOpens n d cell trees sets.now
+        → AreDeviceOpens n d cell trees lists zones.old.items
+        → AreDeviceOpens n d cell trees (lists ++ map further_names rules.now) zones.new.items) }
     ensures canonical { OnOk result (All IsCanonical zones.new.items) }
 {
     for rule in rules {
@@ -90,7 +90,7 @@ fn push_further_zones(
     Ok(())
 }
 
-/// A cell's disturbed squares for each device rule, from those for the names: a union for each of
+/// The squares that a cell leaves for each device rule, from those for the names: a union for each of
 /// the rule's layers.
 pub fn device_zones(
     alloc: Global,
@@ -98,8 +98,8 @@ pub fn device_zones(
     rules: &RuleSet,
 ) -> Result<Vec<RectSet>, AllocError>
     ensures zones { IfOk result (λ v. (n : ℕ) (d : Linked) (cell : ℕ)
-        (trees : List Formula) → AreNameZones n d cell trees sets.now
-        → AreDeviceZones n d cell trees (device_names (rules_seen rules.now)) v.items) }
+        (trees : List Formula) → AreNameOpens n d cell trees sets.now
+        → AreDeviceOpens n d cell trees (device_names (rules_seen rules.now)) v.items) }
     ensures canonical { IfOk result (λ v. All IsCanonical v.items) }
 {
     let mut zones = Vec::new(alloc);

@@ -1,11 +1,14 @@
 //! Disturbed squares of each cell, from the cells that place it: where, in some placement, shapes
-//! from outside the cell lie over it.
+//! from outside the cell lie over it; and the squares that the cell leaves therefore to the cells
+//! above.
 #![tactic(auto)]
 
+mod bare;
 mod beside;
 mod devices;
 mod frame;
 mod laws;
+mod lone;
 mod names;
 mod neighbours;
 mod overs;

@@ -1,21 +1,21 @@
-//! Disturbed squares for two lists of layers together.
+//! Squares that a cell leaves for two lists of layers together.
 ghost use Rattle.std.specs.Prelude.{◌≡◌, ◌++◌, ℕ, List, [], get_or, IfOk};
 ghost use Rattle.geo_base.specs.declared.layer.LayerKey.{LayerKey};
 ghost use Rattle.cell_graph.specs.Linked.{Linked};
-ghost use Rattle.deep_tables.specs.Frames.{IsFramedZone};
+ghost use Rattle.deep_tables.specs.Frames.{IsFramedOpen};
 ghost use Rattle.flat_layout.specs.Layers.{Formula, Empty, inputs};
-ghost use Rattle.zone_phase.specs.Names.{AreNameZones};
+ghost use Rattle.zone_phase.specs.Names.{AreNameOpens};
 
 use geo_base::Op;
 use rect_sets::RectSet;
 use std::alloc::{AllocError, Global};
 
-/// The union of disturbed squares for two lists of layers: those of a name that reads two others,
+/// The union of what is left for two lists of layers: that of a name that reads two others,
 /// or of a device rule.
 pub fn both_zones(alloc: Global, a: &RectSet, b: &RectSet) -> Result<RectSet, AllocError>
     ensures { IfOk result (λ r. (n : ℕ) (d : Linked) (xs ys : List LayerKey) (cell : ℕ)
-        → IsFramedZone n d xs cell a.now → IsFramedZone n d ys cell b.now
-        → IsFramedZone n d (xs ++ ys) cell r) }
+        → IsFramedOpen n d xs cell a.now → IsFramedOpen n d ys cell b.now
+        → IsFramedOpen n d (xs ++ ys) cell r) }
 {
     let set = a.combined(alloc, b, Op::Or)?;
     Ok(set)
@@ -29,7 +29,7 @@ pub fn set_at<'a>(sets: &'a [RectSet], name: u32, none: &'a RectSet) -> &'a Rect
     sets.get(name as usize).unwrap_or(none)
 }
 
-/// The union of a name's disturbed squares and others.
+/// The union of what is left for a name and of others.
 pub fn with_name(
     alloc: Global,
     sets: &[RectSet],
@@ -37,9 +37,9 @@ pub fn with_name(
     others: &RectSet,
 ) -> Result<RectSet, AllocError>
     ensures { IfOk result (λ r. (n : ℕ) (d : Linked) (cell : ℕ) (trees : List Formula)
-        (ys : List LayerKey) → AreNameZones n d cell trees sets.now
-        → IsFramedZone n d ys cell others.now
-        → IsFramedZone n d (inputs (get_or trees name Empty) ++ ys) cell r) }
+        (ys : List LayerKey) → AreNameOpens n d cell trees sets.now
+        → IsFramedOpen n d ys cell others.now
+        → IsFramedOpen n d (inputs (get_or trees name Empty) ++ ys) cell r) }
 {
     let none = RectSet::empty(alloc);
     let set = both_zones(alloc, set_at(sets, name, &none), others)?;

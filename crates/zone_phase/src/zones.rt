@@ -55,7 +55,7 @@ fn push_use<R: Reads<CellZones>>(
     let order = design.order();
     let parent = order[order.len() - 1 - found.job as usize];
     let place = &design.places(parent)[found.index];
-    let zone = &reads.get(found.job).layers[name];
+    let zone = reads.get(found.job).disturbed(name);
     push_reference(alloc, out, frame, zone, parent, found.index, place)
 }
 

@@ -54,7 +54,7 @@ returns c = λ u at is.
     let flat = λ (a : Square) (e : in_set part a). kept_flat (plain d) cell u.gate a (is.kept a e) in
     let told = is.told least inside in
     let yes = c.if-not-branch.false in
-    let settled = (settled_told d r z cell n u c.sound.ensures ready.zones ready.reached at part close least told flat c.in_ok-close.ensures c.args.at.now.reach (c.requires.ready.reach u at)).0 (c.in_ok-is_own.ensures.calm yes) in
+    let settled = (settled_told d r z cell n u c.sound.ensures ready.zones ready.reached at part close least told flat c.in_ok-close.ensures c.args.at.now.reach (c.requires.ready.reach u at)).0 (c.in_ok-is_own.ensures.kept yes) in
     let squares = told.squares settled in (
       refl,
       (
