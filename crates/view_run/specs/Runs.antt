@@ -32,8 +32,8 @@ pub record Asks (words : Option Asked) (q : Asked) : Type 0 where
 abbrev pub IsPageApart : Asked → Type 0
 IsPageApart q = IfSome q.page (λ path. q.database ≢ path)
 
--- the rule file was read whole, and then the layout's, and then the schematic's, with these meanings;
--- cells keep squares as the rules say
+-- the rule file was read whole, and then the layout's, and then the schematic's, with these
+-- meanings; cells keep squares as the rules say
 pub record ReadsRules (words : Option Asked) (old new : Store) (q : Asked) (r : Rules)
     : Type 0 where
   pub asks : Asks words q
