@@ -23,9 +23,8 @@ ghost use Rattle.cell_context.specs.Placed.{Grows};
 ghost use Rattle.layer_phase.specs.Looks.{HaveDisturbed, HaveFlat, HoldDisturbed, IsListAt};
 
 use crate::grown::{sized, twice_around, twice_grown};
-use crate::parts::input_squares;
 use crate::work::View;
-use cell_context::grown;
+use cell_context::{collect_in, grown};
 use cell_graph::Design;
 use deep_tables::{ZoneKey, Zones};
 use geo_base::{Op, Rect};
@@ -156,7 +155,7 @@ fn push_flat(
 {
     match form {
         LayerForm::Input(key) => {
-            let set = input_squares(alloc, design, cell, key, places)?;
+            let set = collect_in(alloc, design, cell, key, places)?;
             out.extend_from_slice(set.rects())
         }
         _ => Ok(()),
