@@ -24,8 +24,7 @@ use geo_base::{Op, Rect};
 use rect_sets::{RectSet, combine_rects};
 use std::alloc::{AllocError, Global};
 
-// What is disturbed for a name in a visited cell and lies in a window, as pieces of it: found by
-// the index.
+// What a visited cell leaves for a name in a window, as pieces of it: found by the index.
 fn disturbed_near(
     alloc: Global,
     zones: &Zones,
@@ -72,8 +71,8 @@ fn cut_near(
     combine_rects(alloc, &[*window], stirred.rects(), Op::Not)
 }
 
-// The part of a visit's window near which nothing is disturbed in the visited cell: only what is
-// disturbed in the grown window is looked at.
+// The part of a visit's window near which the visited cell leaves nothing: only what it leaves in
+// the grown window is looked at.
 fn calm_part(
     alloc: Global,
     zones: &Zones,
@@ -94,7 +93,7 @@ fn calm_part(
 }
 
 /// What the placed cells keep of a name's flat squares in a window: the parts of their hulls, grown
-/// by the name's reach, near which nothing is disturbed.
+/// by the name's reach, near which they leave nothing.
 pub fn calm_pieces(
     alloc: Global,
     work: &CellWork,
@@ -156,7 +155,7 @@ fn without(alloc: Global, set: RectSet, other: &RectSet) -> Result<RectSet, Allo
     set.combined(alloc, other, Op::Not)
 }
 
-/// A cell's layer: flat squares, without the disturbed ones and those that placed cells keep.
+/// A cell's layer: flat squares, without those that it leaves and those that placed cells keep.
 pub fn local_squares(
     alloc: Global,
     flat: RectSet,
