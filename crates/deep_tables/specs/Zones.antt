@@ -103,8 +103,8 @@ ZoneEntryLaw = (d : Design) (r : Rules) (table : List (Option CellZones)) (cell 
     (x : Formula) → AreZones d r table → IsReached d cell → slice_get (formulas r.names) i ≡ Some x
     → (zone : List Rect) × (zone_of table cell (Layer i) ≡ Some zone)
 
--- and what is found there are the squares that the cell leaves, for each name that is asked and each
--- device rule
+-- and what is found there are the squares that the cell leaves, for each name that is asked and
+-- each device rule
 abbrev pub HasZone : Design → ℕ → List (Option CellZones) → ℕ → ZoneKey → List LayerKey → Type 0
 HasZone d n table cell key keys = (zone : List Rect) × (zone_of table cell key ≡ Some zone)
     × IsOpenZone d keys n cell zone
