@@ -1,7 +1,7 @@
 use Rattle.std.proofs.Common.{◌∙◌, sym, subst}
 use Rattle.cell_graph.specs.Linked.{HullIsSound}
 use Rattle.cell_graph.proofs.Bridge.{hull_sound}
-use Rattle.gate_phase.proofs.Freeing.{free_in}
+use Rattle.gate_phase.proofs.Freeing.{free_in, not_free_in}
 use Rattle.gate_phase.proofs.Results.{if_ok}
 use Rattle.gate_phase.proofs.below.is_free_visit.Goals as goal
 
@@ -10,5 +10,7 @@ grown_hull-frame-requires-clause-hull c = subst HullIsSound (sym c.hull.ensures 
 
 pub returns-in-Some : goal.returns-in-Some
 returns-in-Some c =
-    if_ok _ _ c.is_free.result (λ b told.
-    free_in c.args.at.now.reach c.args.at.now.site.design.now c.args.at.now.site.zones.now c.args.at.now.number c.args.close.now c.args.visit.now.cell c.args.visit.now.motion c.in-Some.hull c.grown_hull-frame.result c.indexed-zone.result.now b (sym c.hull.ensures ∙ c.in-Some.is) c.grown_hull-frame.ensures.grown c.indexed-zone.ensures told) c.is_free.ensures
+    if_ok _ _ c.is_mine.result
+    (λ b told.
+    free_in c.args.at.now.reach c.args.at.now.site.design.now c.args.at.now.site.zones.now c.args.at.now.number c.args.part.now c.args.close.now c.args.visit.now.cell c.args.visit.now.motion c.in-Some.hull c.grown_hull-frame.result c.indexed-zone.result.now (sym c.hull.ensures ∙ c.in-Some.is) c.grown_hull-frame.ensures.grown c.indexed-zone.ensures c.in_ok-there.there _ b (c.in_ok-is_free.ensures.0 c.if-not-branch.false) c.in_ok-there.ensures c.lone.ensures told)
+    c.is_mine.ensures
