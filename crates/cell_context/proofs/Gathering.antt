@@ -1,5 +1,5 @@
 -- What is gathered through visits.
-use Rattle.std.proofs.Common.{◌≡◌, ◌↔◌, inl, inr, ℕ, zero, suc, pos, ◌<◌, ◌^◌, List, [], ◌∷◌, Option, Some, None, true, ◌&&◌, ◌||◌, slice_index_or, length, map, refl, sym, ◌∙◌, ap, subst, arith}
+use Rattle.std.proofs.Common.{◌≡◌, ◌↔◌, inl, inr, ℕ, zero, suc, pos, ◌<◌, ◌+◌, ◌^◌, List, [], ◌∷◌, ◌++◌, Option, Some, None, true, ◌&&◌, ◌||◌, slice_index_or, length, map, take, refl, sym, ◌∙◌, ap, subst, arith}
 use Rattle.std.proofs.lemmas.Bool.{and_parts, and_from, or_cases, or_left, or_right}
 use Rattle.std.specs.List.{All}
 use Rattle.geo_base.specs.Near.{IsNearMotion, IsNearRect}
@@ -23,7 +23,7 @@ use Rattle.cell_context.specs.declared.arrays.Visit.{Visit}
 use Rattle.cell_context.specs.Visits.{IsVisited}
 use Rattle.cell_context.specs.Over.{IsOver, OverLaw, IsVisit, AreVisited, IsPiece}
 use Rattle.cell_context.proofs.Visiting.{near_motion, near_rect, wider_rect, within_inside}
-use Rattle.cell_context.proofs.Collecting.{near_array}
+use Rattle.cell_context.proofs.Collecting.{near_array, covers_append, covers_more}
 
 to_flat : (d : Linked) (cell : ℕ) (key : LayerKey) (q : Square) → IsSound d → IsOver d cell None key q → InFlatInput (plain d) cell key q
 to_flat d cell key q sound (inl e) = record { path = []; end = cell; square = q; takes = (refl, refl); own = (own d sound cell key q).1 e }
@@ -159,3 +159,22 @@ start_right d cell skip key w old new rects none is h q e =
 pub start_own : (d : Linked) (cell : ℕ) (key : LayerKey) (w : Rect) (old new rects : List Rect) → rects ≡ own_of (cell_at d cell) key → Starts old new rects w
     → (q : Square) → covers (own_of (cell_at d cell) key) q ≡ true → has w q ≡ true → covers new q ≡ true
 start_own d cell key w old new rects is h q e g = h q ∙ or_right (covers old q) (covers rects q && has w q) (and_from (covers rects q) (has w q) (subst (λ l. covers l q ≡ true) (sym is) e) g)
+
+-- one more rectangle whose flat squares are gathered
+pub grow : (d : Linked) (cell : ℕ) (key : LayerKey) (old more new rects : List Rect) (k : ℕ) (z : Rect) → IsSound d → k < length rects → new ≡ old ++ more
+    → ((q : Square) → (covers old q ≡ true) ↔ ((covers (take k rects) q ≡ true) × InFlatInput (plain d) cell key q))
+    → ((q : Square) → (covers more q ≡ true) ↔ ((has (slice_index_or rects k z) q ≡ true) × IsOver d cell None key q))
+    → (q : Square) → (covers new q ≡ true) ↔ ((covers (take (k + 1) rects) q ≡ true) × InFlatInput (plain d) cell key q)
+grow d cell key old more new rects k z sound lt e before here q =
+    let joined : covers new q ≡ (covers old q || covers more q) = ap (λ l. covers l q) e ∙ covers_append old more q in
+    let next = covers_more rects k z q lt in
+    let o = over_flat d sound cell key q in (
+      (λ h. elim (or_cases (covers old q) (covers more q) (sym joined ∙ h)) [
+        | inl g ↦ let b = (before q).0 g in (next ∙ or_left (covers (take k rects) q) (has (slice_index_or rects k z) q) b.0, b.1)
+        | inr g ↦ let b = (here q).0 g in (next ∙ or_right (covers (take k rects) q) (has (slice_index_or rects k z) q) b.0, o.0 b.1)
+      ]),
+      (λ h. joined ∙ elim (or_cases (covers (take k rects) q) (has (slice_index_or rects k z) q) (sym next ∙ h.0)) [
+        | inl g ↦ or_left (covers old q) (covers more q) ((before q).1 (g, h.1))
+        | inr g ↦ or_right (covers old q) (covers more q) ((here q).1 (g, o.1 h.1))
+      ]),
+    )
