@@ -15,7 +15,7 @@ use Rattle.cell_graph.specs.declared.cells.Place.{Place}
 use Rattle.cell_graph.specs.declared.cells.CellPart.{CellPart}
 use Rattle.cell_graph.specs.declared.indexes.CellIndex.{CellIndex}
 use Rattle.cell_graph.specs.Indexes.{AreSpans, IsIndexed, AreIndexed}
-use Rattle.cell_graph.specs.Linked.{Linked, linked_of, own_rects, own_of, cell_at, places_at, hull_of}
+use Rattle.cell_graph.specs.Linked.{Linked, own_rects, own_of, cell_at, places_at, hull_of}
 use Rattle.cell_graph.specs.Spans.{IsSpan, HasSpan, IsPlaceIn, ArePlacesIn}
 use Rattle.cell_graph.proofs.Sweeping.{one_span}
 
@@ -116,16 +116,16 @@ places_found d cell w numbers spans found h g = record {
         at_contains (map (slice_index numbers) found) k at.0 (map_to (slice_index numbers) found at.0 on.0 at.1 ∙ ap Some (get_or_from_slice_get numbers on.0 k 0 on.1))
 
 -- the indexes of a design's cell, whose layers were read
-pub index_here : (d : Linked) (cells : List CellPart) (top : ℕ) (order : List ℕ) (indexes : List CellIndex) (cell : ℕ) (key : LayerKey) (part : CellPart) (x : CellIndex) (layers : List OwnLayer)
-    → linked_of cells top order ≡ d → AreIndexed cells indexes → cell < length d.cells → part ≡ get_or cells cell part → x ≡ get_or indexes cell x → layers ≡ part.layers.items
+pub index_here : (d : Linked) (cells : List CellPart) (indexes : List CellIndex) (cell : ℕ) (key : LayerKey) (part : CellPart) (x : CellIndex) (layers : List OwnLayer)
+    → cells ≡ d.cells → AreIndexed cells indexes → cell < length d.cells → part ≡ get_or cells cell part → x ≡ get_or indexes cell x → layers ≡ part.layers.items
     → (own_of (cell_at d cell) key ≡ own_rects layers key) × IsIndexed cells part x
-index_here d cells top order indexes cell key part x layers is h lt is_part is_x are =
-    let in_cells : cell < length cells = subst (λ (d : Linked). cell < length d.cells) (sym is) lt in
+index_here d cells indexes cell key part x layers is h lt is_part is_x are =
+    let in_cells : cell < length cells = subst (λ (cs : List CellPart). cell < length cs) (sym is) lt in
     let at : slice_get cells cell ≡ Some part = slice_get-get_or cells cell part in_cells ∙ ap Some (sym is_part) in
     let in_indexes : cell < length indexes = subst (λ n. cell < n) (sym h.count) in_cells in
     let at_x : slice_get indexes cell ≡ Some x = slice_get-get_or indexes cell x in_indexes ∙ ap Some (sym is_x) in
     let own : own_of (slice_get cells cell) key ≡ own_rects layers key = ap (λ o. own_of o key) at ∙ ap (λ (ls : List OwnLayer). own_rects ls key) (sym are) in
-    (subst (λ (d : Linked). own_of (cell_at d cell) key ≡ own_rects layers key) is own, h.each cell part x at at_x)
+    (subst (λ (cs : List CellPart). own_of (slice_get cs cell) key ≡ own_rects layers key) is own, h.each cell part x at at_x)
 
 -- and the spans of its references
 pub index_at_cell : (cells : List CellPart) (indexes : List CellIndex) → AreIndexed cells indexes → (i : ℕ) → i < length cells → (x : CellIndex) → x ≡ get_or indexes i x

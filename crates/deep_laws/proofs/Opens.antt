@@ -57,11 +57,11 @@ bare d key n cell zone flat left covered is_zone is_flat canonical made = record
   where
     of_key : (q : Square) (k : LayerKey) → Some_of (λ j. j ≡ k) (key ∷ []) → InFlatInput d cell key q → InFlatInput d cell k q
     of_key q k (inl e) h = subst (λ j. InFlatInput d cell j q) e h
-    of_key q k (inr no) h = absurd no
+    of_key q k (inr none) h = absurd none
 
     one_of : (q : Square) (k : LayerKey) → Some_of (λ j. j ≡ k) (key ∷ []) → IsDisturbed d (k ∷ []) cell q → IsDisturbed d (key ∷ []) cell q
     one_of q k (inl e) h = subst (λ j. IsDisturbed d (j ∷ []) cell q) (sym e) h
-    one_of q k (inr no) h = absurd no
+    one_of q k (inr none) h = absurd none
 
     here : (q : Square) → IsInHull d cell n q → covers left q ≡ false → IsShutBy Covered d (key ∷ []) cell q
     here q inner e = λ k listed h.
