@@ -1,7 +1,7 @@
 #!/usr/bin/env python3
 """Runs a program and the reference on generated inputs and compares all they give.
 
-compare.py PROGRAM COUNT SEED0 [COMMAND] [--faulty F] [--keep DIR] [--most N]
+compare.py PROGRAM COUNT SEED0 [COMMAND] [--faulty F] [--covered] [--keep DIR] [--most N]
 
 Status, standard output and every file are compared byte for byte.  The first differences are
 printed, and the inputs of each differing case are kept in DIR/SEED.
@@ -99,6 +99,7 @@ def main():
     parser.add_argument("seed0", type=int)
     parser.add_argument("command", nargs="?", default="any")
     parser.add_argument("--faulty")
+    parser.add_argument("--covered", action="store_true", help="all rules have keep_covered")
     parser.add_argument("--keep")
     parser.add_argument("--most", type=int, default=5, help="differing cases to print")
     options = parser.parse_args()
@@ -109,7 +110,7 @@ def main():
         command.insert(0, sys.executable)
     kinds, differing = collections.Counter(), 0
     for seed in range(options.seed0, options.seed0 + options.count):
-        words, files = gen.generate(seed, options.command, options.faulty)
+        words, files = gen.generate(seed, options.command, options.faulty, options.covered)
         ours = None
         try:
             ours = reference(words, files)

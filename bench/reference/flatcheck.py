@@ -1,5 +1,5 @@
 #!/usr/bin/env python3
-"""Checks the reference against itself: `flatcheck.py COUNT SEED0`.
+"""Checks the reference against itself: `flatcheck.py COUNT SEED0 [covered]`.
 
 For random layouts the written layers, expanded, must cover the flat layers, and the netlist of
 all cells must match the netlist of the same layout made of one cell.
@@ -34,9 +34,9 @@ def flattened(design):
     return Layout(library, None)
 
 
-def problems(seed):
+def problems(seed, covered):
     """What is wrong for one seed."""
-    words, files = gen.generate(seed, "run")
+    words, files = gen.generate(seed, "run", covered=covered)
     top = next((w[6:] for w in words if w.startswith("--top=")), None)
     if "--top" in words:
         top = words[words.index("--top") + 1]
@@ -74,7 +74,7 @@ def main(words):
     """Checks so many seeds."""
     count, first, wrong = int(words[0]), int(words[1]), 0
     for seed in range(first, first + count):
-        found = problems(seed)
+        found = problems(seed, words[2:] == ["covered"])
         if found:
             wrong += 1
             print("seed %d: %s" % (seed, "; ".join(found)))

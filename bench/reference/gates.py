@@ -56,18 +56,24 @@ class CellGates:
             self.listed += sorted(found, key=lambda g: (g.least[1], g.least[0]))
 
     def _settled(self, device):
-        """The parts that, with their rings, lie off all disturbed squares."""
+        """The parts that, with their rings, lie off all squares that the cell leaves.
+
+        With `keep_covered` some square of the part must be one that others don't make alone.
+        """
         view, rules = self.view, self.rules
         names = device.layers.values()
         inputs = frozenset().union(*(rules.inputs(n) for n in names))
-        disturbed = view.near(inputs, max(rules.reach(n) for n in names))
+        left = view.near(inputs, max(rules.reach(n) for n in names))
+        regions = [device_layers(device).get("gate")]
         if device.kind == "diode":
-            area = view.flat[device.layers[b"P"]] & view.flat[device.layers[b"N"]]
-        else:
-            area = view.flat[device_layers(device)["gate"]]
+            regions = [device.layers[b"P"], device.layers[b"N"]]
+        area = set.intersection(*(view.flat[name] for name in regions))
+        lone = set()
+        if rules.keep_covered:
+            lone = set.intersection(*(view.lone(name) for name in regions))
         for part in parts(area):
             ring = {near for cell in part for near in around(cell)} - part
-            if not (part | ring) & disturbed:
+            if not (part | ring) & left and part - lone:
                 yield part, ring
 
     def _measure(self, gate, part, ring):

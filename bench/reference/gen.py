@@ -38,6 +38,7 @@ RULE_LINES = [b"a.width(10)", b"poly = input(1, 0)", b"x = in1 & zz", b"x = txt 
               b"netlist.flatten_circuit('')", b"deep.flatten_circuit('A')",
               b"flatten_unmatched", b"flatten_unmatched x", b"flatten_unmatched = input(1, 0)",
               b"same_pins", b"same_pins()", b"same_pins = in1 & in1",
+              b"keep_covered", b"keep_covered()", b"keep_covered = in1 & in1",
               b"flatten_circuit('A')", b"flatten_circuit = input(9, 1)",
               b"netlist.output(1, 0)", b"schematic.flatten_circuit('b') x",
               b"x = in1 & input", b"in1 = in1 & in1", b"x = in1 &", b"x = & in1", b"x == in1"]
@@ -171,8 +172,8 @@ def _paths_fit(data, tops):
     return all(placements(data, top) <= MOST_PATHS for top in tops)
 
 
-def generate(seed, command="any", faulty=None):
-    """The words and the files of one case."""
+def generate(seed, command="any", faulty=None, covered=False):
+    """The words and the files of one case; `covered`: its rules have `keep_covered`."""
     rng = random.Random("%s/%s/%s" % (seed, command, faulty))
     if command == "any":
         command = rng.choice(["shapes", "extract", "run", "run"])
@@ -193,6 +194,10 @@ def generate(seed, command="any", faulty=None):
         if spread.random() < 0.2:
             maker.spread(spread)
         (rules.devices if devices else rules.layers)()
+    keeping = random.Random("covered/%s" % seed)
+    if covered or keeping.random() < 0.3:
+        maker.share(keeping)
+        rules.lines.insert(keeping.randint(0, len(rules.lines)), b"keep_covered")
     stream, top = maker.stream(), None
     plain = all(32 < b < 127 for b in maker.cells[-1].name)
     if command != "shapes" and plain and (len(maker.unplaced()) > 1 or rng.random() < 0.2):

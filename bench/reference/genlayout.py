@@ -217,6 +217,16 @@ class Maker:
             if rng.random() < 0.8:
                 cell.far = tuple(rng.choice([1, 1, -1]) * rng.choice(FAR) for _ in range(2))
 
+    def share(self, rng):
+        """Places some cells once more, a little beside where they are or at the very same place."""
+        for cell in self.cells:
+            for ref in list(cell.refs):
+                if rng.random() < 0.5 and cell.paths + ref[0].paths <= MOST_PATHS:
+                    cell.paths += ref[0].paths
+                    step = rng.choice([(0, 0), (1, 0), (3, 0), (7, 0), (0, 1), (0, 4), (2, 2)])
+                    at = tuple(a + b for a, b in zip(ref[3], step))
+                    cell.refs.append(ref[:3] + (at, 1, 1, (0, 0), (0, 0)))
+
     def rings(self, sizes):
         """Rings of transistors beside each other, perhaps one cell further down."""
         rng, x = self.rng, 0

@@ -1,5 +1,8 @@
 """Flat, disturbed, kept and local squares of each cell, from their definitions.
 
+A cell leaves a square for an input layer where it is disturbed; with `keep_covered` only where it
+has nothing of this layer there itself.
+
 All paths from the top are listed, so this is for layouts with few placements.
 """
 
@@ -33,12 +36,16 @@ class View:
         images = [(name, motion.rect(rect)) for child, motion in layout.places(cell)
                   for name, rects in deep.kept_rects[child].items() for rect in rects]
         further = [r for rects in zone_rects.values() for r in rects]
-        further = [grown(r, m) for r in further for m in deep.zone_margins]
+        margins = deep.margins if rules.keep_covered else deep.zone_margins
+        further = [grown(r, m) for r in further for m in margins]
         further += [rect for _, rect in images]
         self.grid = Grid([r for rects in flat_rects.values() for r in rects], deep.margins,
                          further)
         self.zone = {key: self.grid.cells(rects) for key, rects in zone_rects.items()}
         self.inputs = {key: self.grid.cells(rects) for key, rects in flat_rects.items()}
+        self.left = self.zone
+        if rules.keep_covered:
+            self.left = {key: cells - self.inputs[key] for key, cells in self.zone.items()}
         self.flat = {}
         for name, form in enumerate(rules.forms):
             self.flat[name] = self._flat(form)
@@ -64,17 +71,36 @@ class View:
             return set()
         one = self.flat[form[1]]
         if word == "sized":
-            if form[2] > 0:
-                return dilated(self.grid, one, form[2])
-            return one - dilated(self.grid, self.grid.all_cells() - one, -form[2])
+            return self._sized(one, form[2])
         other = self.flat[form[2]]
         return {"and": one & other, "or": one | other, "not": one - other,
                 "xor": one ^ other}[word]
 
+    def _sized(self, cells, size):
+        if size > 0:
+            return dilated(self.grid, cells, size)
+        return cells - dilated(self.grid, self.grid.all_cells() - cells, -size)
+
     def near(self, inputs, reach):
-        """The cells within `reach` of a disturbed square of these inputs."""
-        found = set().union(*(self.zone[key] for key in inputs))
+        """The cells within `reach` of a square that the cell leaves for one of these inputs."""
+        found = set().union(*(self.left[key] for key in inputs))
         return dilated(self.grid, found, reach)
+
+    def lone(self, name):
+        """The most that the shapes of others may make of a name without the cell's."""
+        form = self.deep.rules.forms[name]
+        word = form[0]
+        if word == "input":
+            return self.zone[form[1]]
+        if word in ("labels", "empty"):
+            return set()
+        one = self.lone(form[1])
+        if word == "sized":
+            return self._sized(one, form[2])
+        if word == "not":
+            return one
+        other = self.lone(form[2])
+        return one & other if word == "and" else one | other
 
 
 class Deep:

@@ -14,7 +14,7 @@ OPERATORS = {b"&": "and", b"|": "or", b"-": "not", b"^": "xor"}
 WORDS = {b"connect", b"connect_global", b"extract_devices", b"same_circuits", b"max_guesses",
          b"deep", b"netlist", b"align", b"compare", b"schematic", b"input", b"labels",
          b"polygon_layer", b"output", b"mos4", b"flatten_unmatched", b"same_pins",
-         b"combine_devices", b"resistor_with_bulk", b"diode"}
+         b"keep_covered", b"combine_devices", b"resistor_with_bulk", b"diode"}
 PATTERN = frozenset(b"*?[{")
 BAD_BYTES = frozenset(range(32)) - frozenset((9, 10, 13)) | {127}
 MOST_REACH = 10000
@@ -49,6 +49,7 @@ class Rules:
         self.flat = (set(), set())
         self.flatten_unmatched = False
         self.same_pins = False
+        self.keep_covered = False
         self.combine = False
         self.lines = {}
 
@@ -256,6 +257,8 @@ class _Reader:
             statement = ("flatten_unmatched",)
         elif word == b"same_pins":
             statement = ("same_pins",)
+        elif word == b"keep_covered":
+            statement = ("keep_covered",)
         elif word in (b"deep", b"netlist", b"align", b"compare"):
             statement = ("nothing",)
         elif word == b"combine_devices":
@@ -389,6 +392,10 @@ class _Reader:
             if rules.same_pins:
                 raise RuleFault(33, None)
             rules.same_pins = True
+        elif word == "keep_covered":
+            if rules.keep_covered:
+                raise RuleFault(33, None)
+            rules.keep_covered = True
         elif word == "guesses":
             rules.max_guesses = statement[1]
         elif word == "combine":

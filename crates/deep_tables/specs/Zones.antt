@@ -24,6 +24,11 @@ IsAsked r i (Binary op a b) = Unit {0}
 IsAsked r i (Sized by a) = Unit {0}
 IsAsked r i x = IsRead r.names r.devices r.more i
 
+-- a set of what lies over the cell for each of so many names
+abbrev pub HasInputs : ℕ → Option CoveredZones → Type 0
+HasInputs n None = Unit {0}
+HasInputs n (Some c) = length c.inputs.items ≡ n
+
 -- a name's set of an entry is there
 abbrev pub HasInput : ℕ → Option CoveredZones → Type 0
 HasInput name None = Unit {0}
@@ -58,6 +63,7 @@ pub record AreCellZones (d : Design) (r : Rules) (cell : ℕ) (v : CellZones) : 
   pub layers : (i : ℕ) (x : Formula) (zone : List Rect) → slice_get (formulas r.names) i ≡ Some x
       → slice_get v.layers.items i ≡ Some zone → IsAsked r i x
       → IsOpenZone d (inputs x) (zone_margin r.names) cell zone
+  pub inputs : HasInputs (length (formulas r.names)) v.covered
   pub disturbed : (i : ℕ) (key : LayerKey) → slice_get (formulas r.names) i ≡ Some (Input key)
       → IsAsked r i (Input key)
       → IsZone d (key ∷ []) (zone_margin r.names) cell (disturbed_in v i)
@@ -97,8 +103,8 @@ ZoneEntryLaw = (d : Design) (r : Rules) (table : List (Option CellZones)) (cell 
     (x : Formula) → AreZones d r table → IsReached d cell → slice_get (formulas r.names) i ≡ Some x
     → (zone : List Rect) × (zone_of table cell (Layer i) ≡ Some zone)
 
--- and what is found there are the squares that the cell leaves, for each name that is asked and each
--- device rule
+-- and what is found there are the squares that the cell leaves, for each name that is asked and
+-- each device rule
 abbrev pub HasZone : Design → ℕ → List (Option CellZones) → ℕ → ZoneKey → List LayerKey → Type 0
 HasZone d n table cell key keys = (zone : List Rect) × (zone_of table cell key ≡ Some zone)
     × IsOpenZone d keys n cell zone

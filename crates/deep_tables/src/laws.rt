@@ -1,7 +1,7 @@
 //! What tables say together, where each job's value is right.
 ghost use Rattle.std.specs.Prelude.{ℕ};
 ghost use Rattle.deep_tables.specs.Circuits.{AllTablesLaw, CircuitsAtLaw, IsCellCircuit};
-ghost use Rattle.deep_tables.specs.Frames.{FrameLaw};
+ghost use Rattle.deep_tables.specs.Frames.{FrameLaw, OpenFrameLaw};
 ghost use Rattle.deep_tables.specs.Gates.{AreCellGates, AreMosCellGates, GatesAtLaw};
 ghost use Rattle.deep_tables.specs.Gates.{RightGatesLaw};
 ghost use Rattle.deep_tables.specs.Layers.{AreCellLayers, EmptyLayerLaw, LayerAtLaw};
@@ -37,9 +37,10 @@ pub fn layer_table()
     ensures empty { EmptyLayerLaw }
 {}
 
-/// Disturbed squares in a grown hull, by the hull that the design has.
+/// Disturbed squares in a grown hull, and those that a cell leaves, by the hull that the design has.
 pub fn zone_frames()
-    ensures { FrameLaw }
+    ensures disturbed { FrameLaw }
+    ensures left { OpenFrameLaw }
 {}
 
 /// Where each job's nets are right, so is the table; right layers and right nets are right

@@ -105,8 +105,3 @@ pub record IsRestOf (rest : Rest) (d : Drawn) : Type 0 where
 -- the same layout, whose cells keep squares in this way
 abbrev pub kept_as : Way → Layout → Layout
 kept_as way l = record l { design = keeping way l.design }
-
--- it is as much what the stream holds
-abbrev pub KeptReadLaw : Type 0
-KeptReadLaw = (way : Way) (bytes : List ℕ) (top : Option (List ℕ)) (l : Layout) → IsRead bytes top l
-    → IsRead bytes top (kept_as way l)

@@ -31,11 +31,15 @@ pub struct Layout {
 }
 
 impl Layout {
-    ghost use Rattle.gds_layout.specs.Layouts.{kept_as};
+    ghost use Rattle.std.specs.Prelude.{ℕ, List, Option};
+    ghost use Rattle.gds_layout.specs.Layouts.{IsRead, kept_as};
 
-    /// The same layout, whose cells keep squares in this way. O(1).
+    /// The same layout, whose cells keep squares in this way: it is as much what a stream holds.
+    /// O(1).
     pub fn keeping(self, way: Way) -> Layout
-        ensures { result ≡ kept_as way self }
+        ensures same { result ≡ kept_as way self }
+        ensures read { (bytes : List ℕ) (top : Option (List ℕ)) → IsRead bytes top self
+            → IsRead bytes top result }
     {
         let Layout {
             header,

@@ -1,3 +1,4 @@
+pub mod Ways
 pub mod Widths
 pub mod Steps
 pub mod Stopping

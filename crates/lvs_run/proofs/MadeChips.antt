@@ -7,7 +7,9 @@ use Rattle.lvs_outside.specs.Store.{Store, Told, NoFile, Holds}
 use Rattle.lvs_outside.specs.Loops.{limit}
 use Rattle.lvs_outside.specs.Files.{File, AreApart}
 use Rattle.gds_layout.specs.declared.layout.Layout.{Layout as ReadLayout}
-use Rattle.gds_layout.specs.Layouts.{IsRead, IsFaultOf}
+use Rattle.gds_layout.specs.Layouts.{IsFaultOf}
+use Rattle.rule_layers.specs.Meaning.{way_of}
+use Rattle.lvs_run.proofs.Ways.{IsReadIn}
 use Rattle.gds_layout.specs.declared.layout.LayoutFault.{LayoutFault}
 use Rattle.gds_layout.specs.declared.layout.LayoutFault.TheVariants as layout
 use Rattle.plain_netlist.specs.Netlist.{Netlist}
@@ -149,7 +151,7 @@ pub record IsChip (n seed : ℕ) (r : rule_sets.Rules) (l : ReadLayout) (nl : Ne
   pub short_rules : length rules_text ≤ limit
   pub rules : Means rules_text r
   pub short_layout : length (layout_text n seed) ≤ limit
-  pub layout : IsRead (layout_text n seed) (Some (codes "TOP")) l
+  pub layout : IsReadIn (way_of r) (layout_text n seed) (Some (codes "TOP")) l
   pub short_schematic : length (schematic_text n seed) ≤ limit
   pub schematic : SpiceMeans read_limit (schematic_text n seed) nl
 
@@ -208,7 +210,7 @@ module _ (n seed : ℕ) (prefix : List ℕ) (s : Store) where
     no_layout NoMemory h = no_memory _ s
     no_layout a h = absurd h
 
-    module _ (l : ReadLayout) (short_layout : length (layout_text n seed) ≤ limit) (layout : IsRead (layout_text n seed) (Some (codes "TOP")) l) where
+    module _ (l : ReadLayout) (short_layout : length (layout_text n seed) ≤ limit) (layout : IsReadIn (way_of r) (layout_text n seed) (Some (codes "TOP")) l) where
       on_schematic : (a : Answer) (done : Done) → OfSchematic (told_of n seed prefix s (schematic_at prefix)) (schematic_at prefix) (ToChip n seed prefix) l r a done
           → IsOutcome (Some (chip_paths n seed prefix)) (told_of n seed prefix s) a done
       on_schematic a done h = on_layout a done (layout_read _ (told_of n seed prefix s) r (chip_paths n seed prefix) a done (layout_text n seed) (layout_in short_layout) (SoundStream l layout h))
@@ -234,7 +236,7 @@ module _ (n seed : ℕ) (prefix : List ℕ) (s : Store) where
 -- ---- what can't be merged
 
 wide_chip : (n seed : ℕ) (r : rule_sets.Rules) (l : ReadLayout) (nl : Netlist) (a : Answer) → IsChip n seed r l nl → IsTooWide l r nl a → IsWideChip n seed (Some (codes "TOP")) a
-wide_chip n seed r l nl a chip h = record { rules = r; means = chip.rules; layout = l; read = chip.layout; schematic = nl; meant = chip.schematic; wide = h }
+wide_chip n seed r l nl a chip h = record { rules = r; means = chip.rules; layout = l; read = chip.layout.0; way = chip.layout.1; schematic = nl; meant = chip.schematic; wide = h }
 
 module _ (n seed : ℕ) (prefix : List ℕ) (s : Store) (r : rule_sets.Rules) (l : ReadLayout) (nl : Netlist) (chip : IsChip n seed r l nl) where
   wide_comes : (a : Answer) (done : Done) → IsTooWide l r nl a → IsOutcome (Some (chip_paths n seed prefix)) (told_of n seed prefix s) a done
@@ -287,8 +289,8 @@ chip_ready n seed prefix s r l nl o chip verdicts matches made =
           (schematic_read _ (schematic_at prefix) (ToChip n seed prefix) l r a made.done (schematic_text n seed) (schematic_in n seed prefix s chip.short_schematic) (SoundCards nl chip.schematic made.is));
       flat = tt;
       netlist = tt;
-      verdicts = report_of n seed prefix s r l nl (HasVerdicts a) made.done.files ran.spelled ran.report chip (verdicts (layout_text n seed) (Some (codes "TOP")) l r nl (length l.design.order) ran.spelled ran.report ran.counts a chip.layout ran.reported);
-      matched = λ good. report_of n seed prefix s r l nl IsMatchOf made.done.files ran.spelled ran.report chip (matches (layout_text n seed) (Some (codes "TOP")) l r nl (length l.design.order) ran.spelled ran.report ran.counts a chip.layout ran.reported good);
+      verdicts = report_of n seed prefix s r l nl (HasVerdicts a) made.done.files ran.spelled ran.report chip (verdicts (layout_text n seed) (Some (codes "TOP")) l r nl (length l.design.order) ran.spelled ran.report ran.counts a chip.layout.0 ran.reported);
+      matched = λ good. report_of n seed prefix s r l nl IsMatchOf made.done.files ran.spelled ran.report chip (matches (layout_text n seed) (Some (codes "TOP")) l r nl (length l.design.order) ran.spelled ran.report ran.counts a chip.layout.0 ran.reported good);
     }
 
 -- the top's name is one
@@ -308,24 +310,24 @@ no_layout_of n seed prefix s one two top r a e f t short means h =
     no_layout n seed prefix s r (subst (λ (xs : List ℕ). length xs ≤ limit) e short) (subst (λ (xs : List ℕ). Means xs r) e means) a
     (subst (λ (o : Option (List ℕ)). NoLayoutIn (layout_at prefix) (layout_text n seed) o a) t (subst (λ (xs : List ℕ). NoLayoutIn (layout_at prefix) xs top a) f h))
 
-top_so : (n seed : ℕ) (two : List ℕ) (top : Option (List ℕ)) (l : ReadLayout) → two ≡ layout_text n seed → top ≡ Some (codes "TOP") → IsRead two top l → IsRead (layout_text n seed) (Some (codes "TOP")) l
-top_so n seed two top l f t read = subst (λ (o : Option (List ℕ)). IsRead (layout_text n seed) o l) t (subst (λ (xs : List ℕ). IsRead xs top l) f read)
+top_so : (r : rule_sets.Rules) (n seed : ℕ) (two : List ℕ) (top : Option (List ℕ)) (l : ReadLayout) → two ≡ layout_text n seed → top ≡ Some (codes "TOP") → IsReadIn (way_of r) two top l → IsReadIn (way_of r) (layout_text n seed) (Some (codes "TOP")) l
+top_so r n seed two top l f t read = subst (λ (o : Option (List ℕ)). IsReadIn (way_of r) (layout_text n seed) o l) t (subst (λ (xs : List ℕ). IsReadIn (way_of r) xs top l) f read)
 
 pub no_schematic_of : (n seed : ℕ) (prefix : List ℕ) (s : Store) (one two three : List ℕ) (top : Option (List ℕ)) (r : rule_sets.Rules) (l : ReadLayout) (a : Answer)
-    → one ≡ rules_text → two ≡ layout_text n seed → three ≡ schematic_text n seed → top ≡ Some (codes "TOP") → length one ≤ limit → Means one r → length two ≤ limit → IsRead two top l
+    → one ≡ rules_text → two ≡ layout_text n seed → three ≡ schematic_text n seed → top ≡ Some (codes "TOP") → length one ≤ limit → Means one r → length two ≤ limit → IsReadIn (way_of r) two top l
     → NoSchematicIn (schematic_at prefix) three a → Stops (Some (chip_paths n seed prefix)) s s a
 no_schematic_of n seed prefix s one two three top r l a e f g t short means size read h =
     no_schematic n seed prefix s r (subst (λ (xs : List ℕ). length xs ≤ limit) e short) (subst (λ (xs : List ℕ). Means xs r) e means) l (subst (λ (xs : List ℕ). length xs ≤ limit) f size)
-    (top_so n seed two top l f t read) a (subst (λ (xs : List ℕ). NoSchematicIn (schematic_at prefix) xs a) g h)
+    (top_so r n seed two top l f t read) a (subst (λ (xs : List ℕ). NoSchematicIn (schematic_at prefix) xs a) g h)
 
 pub chip_of : (n seed : ℕ) (one two three : List ℕ) (top : Option (List ℕ)) (r : rule_sets.Rules) (l : ReadLayout) (nl : Netlist)
-    → one ≡ rules_text → two ≡ layout_text n seed → three ≡ schematic_text n seed → top ≡ Some (codes "TOP") → length one ≤ limit → Means one r → length two ≤ limit → IsRead two top l
+    → one ≡ rules_text → two ≡ layout_text n seed → three ≡ schematic_text n seed → top ≡ Some (codes "TOP") → length one ≤ limit → Means one r → length two ≤ limit → IsReadIn (way_of r) two top l
     → length three ≤ limit → SpiceMeans read_limit three nl → IsChip n seed r l nl
 chip_of n seed one two three top r l nl e f g t short means size read fits says = record {
   short_rules = subst (λ (xs : List ℕ). length xs ≤ limit) e short;
   rules = subst (λ (xs : List ℕ). Means xs r) e means;
   short_layout = subst (λ (xs : List ℕ). length xs ≤ limit) f size;
-  layout = top_so n seed two top l f t read;
+  layout = top_so r n seed two top l f t read;
   short_schematic = subst (λ (xs : List ℕ). length xs ≤ limit) g fits;
   schematic = subst (λ (xs : List ℕ). SpiceMeans read_limit xs nl) g says;
 }

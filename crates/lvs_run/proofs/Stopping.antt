@@ -2,7 +2,9 @@
 use Rattle.std.proofs.Common.{◌≡◌, ◌⊎◌, inl, inr, ◌+◌, ◌<◌, ℕ, List, [], ◌∷◌, Option, Some, None, refl, sym, ap, subst, ◌∙◌, length}
 use Rattle.lvs_outside.specs.Store.{Store, Told, Untold, NoFile, Holds, IsAbsent, Open, Reading}
 use Rattle.gds_layout.specs.declared.layout.Layout.{Layout}
-use Rattle.gds_layout.specs.Layouts.{IsRead, IsFaultOf}
+use Rattle.gds_layout.specs.Layouts.{IsFaultOf}
+use Rattle.rule_layers.specs.Meaning.{way_of}
+use Rattle.lvs_run.proofs.Ways.{IsReadIn}
 use Rattle.gds_layout.specs.declared.layout.LayoutFault.{LayoutFault}
 use Rattle.gds_layout.specs.declared.layout.LayoutFault.TheVariants as layout
 use Rattle.rule_text.specs.declared.fault.RuleFault.{RuleFault}
@@ -223,7 +225,7 @@ memory_stop p old mid new rules layout a b = record { cause = tt; faults = b.fau
 
 -- the rules and the layout were read, and what comes of them is the outcome
 comes_beside : (p : Paths) (old mid new : Store) (r : Rules) (l : Layout) (a : Answer) (done : Done) → p.shared ≡ None → ReadsFiles p.outputs → Quiet old mid → ReadAs old mid p.rules (λ bytes. Means bytes r)
-    → ReadAs mid new p.layout (λ bytes. IsRead bytes p.top l) → OfBeside (schematic_path p.outputs) old.file p.outputs l r a done → IsOutcome (Some p) old.file a done
+    → ReadAs mid new p.layout (λ bytes. IsReadIn (way_of r) bytes p.top l) → OfBeside (schematic_path p.outputs) old.file p.outputs l r a done → IsOutcome (Some p) old.file a done
 comes_beside p old mid new r l a done apart reads quiet rules layout beside =
     on_layout p old mid new r apart reads quiet rules a done (layout_read (mid.file p.layout) old.file r p a done layout.bytes layout.got.told (SoundStream l layout.is beside))
 
@@ -233,7 +235,7 @@ outcome_so : (p : Paths) (file : List ℕ → Told) (a : Answer) (done : Done) �
 outcome_so p file a done reads h = subst (λ (f : List ℕ → Told). IsOutcome (Some p) f a done) (sym (told_files p.outputs file reads)) h
 
 pub outcome_made : (p : Paths) (old mid new : Store) (r : Rules) (l : Layout) (a : Answer) (done : Done) → p.shared ≡ None → ReadsFiles p.outputs → Quiet old mid → ReadAs old mid p.rules (λ bytes. Means bytes r)
-    → ReadAs mid new p.layout (λ bytes. IsRead bytes p.top l) → IsDone p.outputs l r a done → IsOutcome (Some p) (inputs_of p.outputs old.file) a done
+    → ReadAs mid new p.layout (λ bytes. IsReadIn (way_of r) bytes p.top l) → IsDone p.outputs l r a done → IsOutcome (Some p) (inputs_of p.outputs old.file) a done
 outcome_made p old mid new r l a done apart reads quiet rules layout made =
     outcome_so p old.file a done reads (comes_beside p old mid new r l a done apart reads quiet rules layout (made_alone p.outputs old.file l r a done made))
 
@@ -289,7 +291,7 @@ refuses_run (ToChip n seed prefix) l r nl path a reads e h = absurd reads
 
 -- no shapes file of what was read has room for it
 module _ (p : Paths) (old mid new : Store) (r : Rules) (l : Layout) (apart : p.shared ≡ None) (reads : ReadsFiles p.outputs) (alone : schematic_path p.outputs ≡ None)
-    (quiet : Quiet old mid) (rules : ReadAs old mid p.rules (λ bytes. Means bytes r)) (layout : ReadAs mid new p.layout (λ bytes. IsRead bytes p.top l)) where
+    (quiet : Quiet old mid) (rules : ReadAs old mid p.rules (λ bytes. Means bytes r)) (layout : ReadAs mid new p.layout (λ bytes. IsReadIn (way_of r) bytes p.top l)) where
   far_stop : (name : List ℕ) → IsTooFar l r (RefusedWide name) → Stops (Some p) old new (RefusedWide name)
   far_stop name h = record {
     cause = ((apart, last_alone p.outputs p.layout old new reads alone (read_whole old new p.layout layout.bytes new.opened layout.got.opened (subst (IsInput layout.bytes) (quiet.starts.files p.layout) layout.got.told))), layout.got.absent ∙ rules.got.absent);
@@ -305,7 +307,7 @@ module _ (p : Paths) (old mid new : Store) (r : Rules) (l : Layout) (apart : p.s
 
 -- the rules and the layout were read, and the schematic comes next
 module _ (p : Paths) (old mid late new : Store) (r : Rules) (l : Layout) (path : List ℕ) (apart : p.shared ≡ None) (reads : ReadsFiles p.outputs) (beside : schematic_path p.outputs ≡ Some path)
-    (quiet : Quiet old mid) (later : Quiet mid late) (rules : ReadAs old mid p.rules (λ bytes. Means bytes r)) (layout : ReadAs mid late p.layout (λ bytes. IsRead bytes p.top l)) where
+    (quiet : Quiet old mid) (later : Quiet mid late) (rules : ReadAs old mid p.rules (λ bytes. Means bytes r)) (layout : ReadAs mid late p.layout (λ bytes. IsReadIn (way_of r) bytes p.top l)) where
   told_so : late.file path ≡ old.file path
   told_so = later.starts.files path ∙ quiet.starts.files path
 
@@ -340,7 +342,7 @@ module _ (p : Paths) (old mid late new : Store) (r : Rules) (l : Layout) (path :
   schematic_comes a h = absurd h
 
 pub schematic_stop : (p : Paths) (old mid late new : Store) (r : Rules) (l : Layout) (path : List ℕ) (a : Answer) → p.shared ≡ None → ReadsFiles p.outputs → schematic_path p.outputs ≡ Some path → Quiet old mid → Quiet mid late
-    → ReadAs old mid p.rules (λ bytes. Means bytes r) → ReadAs mid late p.layout (λ bytes. IsRead bytes p.top l) → RefusesComparison l r late new path a → Stops (Some p) old new a
+    → ReadAs old mid p.rules (λ bytes. Means bytes r) → ReadAs mid late p.layout (λ bytes. IsReadIn (way_of r) bytes p.top l) → RefusesComparison l r late new path a → Stops (Some p) old new a
 schematic_stop p old mid late new r l path a apart reads beside quiet later rules layout h = record {
   cause = schematic_cause p old mid late new r l path apart reads beside quiet later rules layout a h.why;
   faults = faults_since old late new a (layout.got.faults ∙ rules.got.faults) h.faults;
@@ -349,7 +351,7 @@ schematic_stop p old mid late new r l path a apart reads beside quiet later rule
 
 -- what is written of the comparison is the outcome
 pub outcome_beside : (p : Paths) (old mid late new : Store) (r : Rules) (l : Layout) (nl : Netlist) (path : List ℕ) (a : Answer) (done : Done) → p.shared ≡ None → ReadsFiles p.outputs → schematic_path p.outputs ≡ Some path
-    → Quiet old mid → Quiet mid late → ReadAs old mid p.rules (λ bytes. Means bytes r) → ReadAs mid late p.layout (λ bytes. IsRead bytes p.top l)
+    → Quiet old mid → Quiet mid late → ReadAs old mid p.rules (λ bytes. Means bytes r) → ReadAs mid late p.layout (λ bytes. IsReadIn (way_of r) bytes p.top l)
     → ReadAs late new path (λ bytes. SpiceMeans read_limit bytes nl) → IsDoneBeside p.outputs l r nl a done → IsOutcome (Some p) (inputs_of p.outputs old.file) a done
 outcome_beside p old mid late new r l nl path a done apart reads beside quiet later rules layout schematic made =
     outcome_so p old.file a done reads

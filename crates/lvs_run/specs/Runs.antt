@@ -11,6 +11,7 @@ use Rattle.gds_layout.specs.declared.layout.Layout.{Layout}
 use Rattle.plain_netlist.specs.Netlist.{Netlist}
 use Rattle.rule_text.specs.Reading.{Means, IsFirstFault as IsFirstRuleFault}
 use Rattle.rule_text.specs.Rules.{Rules}
+use Rattle.rule_layers.specs.Meaning.{way_of}
 use Rattle.spice_rows.specs.Sizes.{read_limit}
 use Rattle.spice_text.specs.Means.{Means as SpiceMeans}
 use Rattle.spice_rows.specs.declared.fault.SpiceFault.{SpiceFault}
@@ -130,6 +131,7 @@ pub record IsWideChip (n seed : ℕ) (top : Option (List ℕ)) (a : Answer) : Ty
   pub means : Means rules_text rules
   pub layout : Layout
   pub read : IsRead (layout_text n seed) top layout
+  pub way : layout.design.way ≡ way_of rules
   pub schematic : Netlist
   pub meant : SpiceMeans read_limit (schematic_text n seed) schematic
   pub wide : IsTooWide layout rules schematic a

@@ -28,12 +28,14 @@ use crate::readings::{layout_stop, rules_stop, schematic_stop};
 use crate::status::Refusal;
 use crate::words::ChipTask;
 use chip_maker::{Made, make};
+use flat_layout::Way;
 use gds_layout::{Layout, read_layout};
 use job_board::{Crew, Gate};
 use lvs_outside::{LIMIT, Written};
 use net_model::Netlist;
 use net_names::Name;
 use report_file::read_alignable;
+use rule_layers::way_of;
 use rule_text::{RuleSet, read_rules};
 use spice_text::read_spice;
 use std::alloc::{AllocError, Global};
@@ -117,7 +119,9 @@ fn layout_in(
     prefix: &String,
     text: &[u8],
     top: &Option<Name>,
+    way: Way,
 ) -> Result<Layout, Stop>
+    ensures way { IfOk result (λ l. l.design.way ≡ way) }
     ensures short { OnOk result (length text.now ≤ limit) }
     ensures found { IfOk result (IsRead text.now top.now) }
     ensures refused { IfErr result (λ why. NoLayoutIn (layout_at (string_bytes prefix.now))
@@ -125,7 +129,7 @@ fn layout_in(
 {
     check_length(prefix, ".gds", text)?;
     match read_layout(alloc, text, top.as_ref()) {
-        Ok(layout) => Ok(layout),
+        Ok(layout) => Ok(layout.keeping(way)),
         Err(fault) => Err(layout_stop(fault)),
     }
 }
@@ -172,7 +176,8 @@ pub fn chip_output<R: Threads + Wait + Sync, G: Gate + Sync>(
     let texts = texts_of(alloc, n, seed)?;
     let rules = rules_in(alloc, &prefix, texts.rules.as_slice())?;
     let top = top_name(alloc)?;
-    let layout = layout_in(alloc, &prefix, texts.layout.as_slice(), &top)?;
+    let way = way_of(&rules);
+    let layout = layout_in(alloc, &prefix, texts.layout.as_slice(), &top, way)?;
     let schematic = schematic_in(alloc, &prefix, texts.schematic.as_slice())?;
     let files = files_to_write(alloc, texts, &prefix)?;
     let crew = Crew::new(rt, workers, gate);

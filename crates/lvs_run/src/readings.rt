@@ -72,9 +72,9 @@ pub fn layout_stop(fault: LayoutFault) -> Stop
 }
 
 /// The layout of the path's file, from the cell of this name, or from the only one that none refers
-/// to; its cells keep squares in this way. The file is read in pieces, of which none is kept, to its end or past the limit before its
-/// fault is answered. An `Err` is as that of `rules_of`. Cost: the file's bytes, and linking its
-/// cells.
+/// to; its cells keep squares in this way. The file is read in pieces, of which none is kept, to its
+/// end or past the limit before its fault is answered. An `Err` is as that of `rules_of`. Cost: the
+/// file's bytes, and linking its cells.
 pub fn layout_of<D: Depot>(
     alloc: Global,
     depot: &mut D,

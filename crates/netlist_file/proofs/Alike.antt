@@ -274,11 +274,11 @@ module _ (r : Rules) (l m : Layout) (same : plain l.design ≡ plain m.design) (
   }
 
 pub one_netlist : OneLayoutLaw → OneLibraryLaw → LevelLaw → OrderLaw → OneTextLaw → OneNetlistLaw
-one_netlist layouts libraries levels orders texts bytes name l m r one other top its_top bad its_bad text its_text x y a b =
+one_netlist layouts libraries levels orders texts bytes name l m r one other top its_top bad its_bad text its_text x y way a b =
     let s = layouts bytes name l m x y in
-    same_file r l m (same_plain l.design m.design s.cells s.top) (one_unit libraries bytes name l m x y) levels orders texts one other top its_top bad its_bad text its_text a b
+    same_file r l m (same_plain l.design m.design s.cells s.top way) (one_unit libraries bytes name l m x y) levels orders texts one other top its_top bad its_bad text its_text a b
 
 pub ordered_once : OneLayoutLaw → OneLibraryLaw → LevelLaw → OrderLaw → OneTextLaw → OneOrderLaw
-ordered_once layouts libraries levels orders texts bytes name l m r one other top its_top bad its_bad text its_text x y a b =
+ordered_once layouts libraries levels orders texts bytes name l m r one other top its_top bad its_bad text its_text x y way a b =
     let s = layouts bytes name l m x y in
-    order r l m (same_plain l.design m.design s.cells s.top) (one_unit libraries bytes name l m x y) levels orders texts one other top its_top bad its_bad text its_text a b
+    order r l m (same_plain l.design m.design s.cells s.top way) (one_unit libraries bytes name l m x y) levels orders texts one other top its_top bad its_bad text its_text a b

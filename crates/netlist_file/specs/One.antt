@@ -15,17 +15,18 @@ pub record IsSameNetlist (one other : Netlist) (n its_n : ℕ) (told its_told : 
   pub bad : told ≡ its_told
   pub text : spelled ≡ its_spelled
 
--- whatever layouts the bytes were read as
+-- whatever layouts the bytes were read as, whose cells keep squares in one way
 abbrev pub OneNetlistLaw : Type 0
 OneNetlistLaw = (bytes : List ℕ) (name : Option (List ℕ)) (l m : Layout) (r : Rules)
     (one other : Netlist) (top its_top : ℕ) (bad its_bad : List BadGate) (text its_text : List ℕ)
-    → IsRead bytes name l → IsRead bytes name m → IsNetlistFile l r one top bad text
-    → IsNetlistFile m r other its_top its_bad its_text
+    → IsRead bytes name l → IsRead bytes name m → l.design.way ≡ m.design.way
+    → IsNetlistFile l r one top bad text → IsNetlistFile m r other its_top its_bad its_text
     → IsSameNetlist one other top its_top bad its_bad text its_text
 
 -- and so are the cells that the top reaches, by height and then file order
 abbrev pub OneOrderLaw : Type 0
 OneOrderLaw = (bytes : List ℕ) (name : Option (List ℕ)) (l m : Layout) (r : Rules)
     (one other : Netlist) (top its_top : ℕ) (bad its_bad : List BadGate) (text its_text : List ℕ)
-    → IsRead bytes name l → IsRead bytes name m → IsNetlistFile l r one top bad text
-    → IsNetlistFile m r other its_top its_bad its_text → l.design.order ≡ m.design.order
+    → IsRead bytes name l → IsRead bytes name m → l.design.way ≡ m.design.way
+    → IsNetlistFile l r one top bad text → IsNetlistFile m r other its_top its_bad its_text
+    → l.design.order ≡ m.design.order

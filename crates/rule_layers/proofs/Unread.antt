@@ -7,7 +7,7 @@ use Rattle.std.proofs.lemmas.List.{get_or_append_left, get_or_push, get_or_past}
 use Rattle.std.proofs.lemmas.Option.{get_or_from_slice_get, slice_get-get_or, slice_get_within, same_Some}
 use Rattle.geo_base.specs.declared.layer.LayerKey.{LayerKey}
 use Rattle.geo_base.specs.declared.layer.Op.{Op}
-use Rattle.flat_layout.specs.Layers.{Formula, Input, Empty, Binary, Sized}
+use Rattle.flat_layout.specs.Layers.{Formula, Input, Empty, Binary, Sized, reach}
 use Rattle.rule_text.specs.declared.rules.LayerForm.{LayerForm}
 use Rattle.rule_text.specs.declared.rules.LayerForm.TheVariants as form
 use Rattle.rule_text.specs.declared.rules.LayerRule.{LayerRule}
@@ -193,6 +193,13 @@ sized_tree names devices further read k by a are tree = other_tree names devices
 
 pub same_sized_tree : (names : List LayerRule) (devices : List MosRule) (further : List MoreRule) (read : List LayerRule) (k : ℕ) (by : ℤ) (a : Formula) → AreRead names devices further read → slice_get (formulas names) k ≡ Some (Sized by a) → slice_get (formulas read) k ≡ Some (Sized by a)
 same_sized_tree names devices further read k by a are at = other_there names devices further read k (Sized by a) (sized_other by a) are at
+
+-- no name reaches further as it is seen
+pub seen_reach : (names : List LayerRule) (devices : List MosRule) (further : List MoreRule) (read : List LayerRule) (k : ℕ) → AreRead names devices further read → reach (get_or (formulas read) k Empty) ≤ reach (get_or (formulas names) k Empty)
+seen_reach names devices further read k are = elim ((alike names devices further read are).each k) [
+  | inl e ↦ let same = ap reach e.0 in omega (arith, same)
+  | inr u ↦ let none = ap reach u.1 in omega (arith, none)
+]
 
 -- an input layer among the trees as they are seen is one of the trees, and is read
 pub seen_input : (names : List LayerRule) (devices : List MosRule) (further : List MoreRule) (read : List LayerRule) (k : ℕ) (key : LayerKey) → AreRead names devices further read → slice_get (formulas read) k ≡ Some (Input key) → (slice_get (formulas names) k ≡ Some (Input key)) × IsRead names devices further k

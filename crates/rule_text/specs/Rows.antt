@@ -34,9 +34,10 @@ abbrev pub statement_words : List (List ℕ)
 statement_words =
     codes "connect" ∷ codes "connect_global" ∷ codes "extract_devices" ∷ codes "same_circuits"
     ∷ codes "max_guesses" ∷ codes "flatten_unmatched" ∷ codes "same_pins"
-    ∷ codes "keep_covered" ∷ codes "combine_devices" ∷ codes "deep" ∷ codes "netlist" ∷ codes "align" ∷ codes "compare"
-    ∷ codes "schematic" ∷ codes "input" ∷ codes "labels" ∷ codes "polygon_layer"
-    ∷ codes "output" ∷ codes "mos4" ∷ codes "resistor_with_bulk" ∷ codes "diode" ∷ []
+    ∷ codes "keep_covered" ∷ codes "combine_devices" ∷ codes "deep" ∷ codes "netlist"
+    ∷ codes "align" ∷ codes "compare" ∷ codes "schematic" ∷ codes "input" ∷ codes "labels"
+    ∷ codes "polygon_layer" ∷ codes "output" ∷ codes "mos4" ∷ codes "resistor_with_bulk"
+    ∷ codes "diode" ∷ []
 
 unfoldable pub is_statement_word : List ℕ → Bool
 is_statement_word w = list_any (bytes_eq w) statement_words

@@ -12,7 +12,7 @@ use Rattle.rect_sets.specs.Rects.{OneListLaw, covers}
 use Rattle.flat_layout.specs.Layout as flat
 use Rattle.flat_layout.specs.Layers.{Formula}
 use Rattle.flat_layout.specs.Values.{IsLocalLayer}
-use Rattle.flat_layout.specs.declared.way.Way.TheVariants.{Disturbed}
+use Rattle.flat_layout.specs.declared.way.Way.{Way}
 use Rattle.cell_graph.specs.declared.cells.Place.{Place}
 use Rattle.cell_graph.specs.declared.cells.CellPart.{CellPart}
 use Rattle.cell_graph.specs.Linked.{Linked, plain, plain_cell, cell_at, places_at}
@@ -110,11 +110,12 @@ plain_map (x ∷ xs) (y ∷ ys) e =
     let rest : map contents xs ≡ map contents ys = cc in
     ap (λ (p : flat.Cell × List Place). p.0 ∷ map plain_cell xs) first ∙ ap (λ (cs : List flat.Cell). plain_cell y ∷ cs) (plain_map xs ys rest)
 
--- designs whose cells draw and place the same are one plain layout
-pub same_plain : (d e : Linked) → map contents d.cells ≡ map contents e.cells → d.top ≡ e.top → plain d ≡ plain e
-same_plain d e cells top =
-    ap (λ (cs : List flat.Cell). let f : flat.Design = record { cells = cs; top = d.top; way = Disturbed } in f) (plain_map d.cells e.cells cells)
-    ∙ ap (λ (t : ℕ). let f : flat.Design = record { cells = map plain_cell e.cells; top = t; way = Disturbed } in f) top
+-- designs whose cells draw and place the same, and keep squares in one way, are one plain layout
+pub same_plain : (d e : Linked) → map contents d.cells ≡ map contents e.cells → d.top ≡ e.top → d.way ≡ e.way → plain d ≡ plain e
+same_plain d e cells top way =
+    ap (λ (cs : List flat.Cell). let f : flat.Design = record { cells = cs; top = d.top; way = d.way } in f) (plain_map d.cells e.cells cells)
+    ∙ ap (λ (t : ℕ). let f : flat.Design = record { cells = map plain_cell e.cells; top = t; way = d.way } in f) top
+    ∙ ap (λ (w : Way). let f : flat.Design = record { cells = map plain_cell e.cells; top = e.top; way = w } in f) way
 
 -- what is written of a cell
 pub record IsSameAt (a b : Option CellPart) : Type 0 where
@@ -208,10 +209,10 @@ reached_once d e xs ys same a b = one_rising xs ys (rises xs (AllPairs-from_incr
     (λ n h. has ys n ((b.each n).1 (subst (λ (f : flat.Design). flat.IsReached f n) same ((a.each n).0 (contains xs n h)))))
     (λ n h. has xs n ((a.each n).1 (subst (λ (f : flat.Design). flat.IsReached f n) (sym same) ((b.each n).0 (contains ys n h)))))
 
-module _ (lists : OneListLaw) (l m : Layout) (r : Rules) (s : IsSameLayout l m) where
+module _ (lists : OneListLaw) (l m : Layout) (r : Rules) (s : IsSameLayout l m) (way : l.design.way ≡ m.design.way) where
   one_text : (text other : List ℕ) (cells others rectangles more : ℕ) → IsShapesFile l r text cells rectangles → IsShapesFile m r other others more → IsSameFile text other cells others rectangles more
   one_text text other cells others rectangles more a b =
-      let same = same_plain l.design m.design s.cells s.top in
+      let same = same_plain l.design m.design s.cells s.top way in
       let reached : a.written.cells ≡ b.written.cells = reached_once l.design m.design a.written.cells b.written.cells same a.written.reached b.written.reached in
       let layers : AreLayers (plain l.design) r b.table = subst (λ (f : flat.Design). AreLayers f r b.table) (sym same) b.layers in
       let lines = λ (k cell : ℕ) (e : slice_get a.written.cells k ≡ Some cell). one_line lists (plain l.design) r a.table b.table a.layers layers cell ((a.written.reached.each cell).0 (contains a.written.cells cell (k, e))) in
@@ -232,7 +233,7 @@ module _ (lists : OneListLaw) (l m : Layout) (r : Rules) (s : IsSameLayout l m) 
       }
 
 pub one_file : OneLayoutLaw → OneListLaw → OneFileLaw
-one_file layouts lists bytes top l m r text other cells others rectangles more x y a b = one_text lists l m r (layouts bytes top l m x y) text other cells others rectangles more a b
+one_file layouts lists bytes top l m r text other cells others rectangles more x y way a b = one_text lists l m r (layouts bytes top l m x y) way text other cells others rectangles more a b
 
 -- ---- the cell for which there is no file
 
@@ -243,7 +244,7 @@ any_same f g (x ∷ xs) h = ap (λ (b : Bool). b || list_any f xs) (h x) ∙ ap 
 apart : (a b : ℕ) → (a < b → ⊥) → (b < a → ⊥) → a ≡ b
 apart a b f g = elim (cases_lt a b) [ inl lt ↦ absurd (f lt) | inr le ↦ elim (cases_lt b a) [ inl lt ↦ absurd (g lt) | inr more ↦ omega (arith, le, more) ] ]
 
-module _ (lists : OneListLaw) (l m : Layout) (r : Rules) (s : IsSameLayout l m) where
+module _ (lists : OneListLaw) (l m : Layout) (r : Rules) (s : IsSameLayout l m) (way : l.design.way ≡ m.design.way) where
   -- what is wide by one table of the layers is so by another
   one_lines : (table other : List (Option CellLayers)) → AreLayers (plain l.design) r table → AreLayers (plain l.design) r other → (cell : ℕ) → flat.IsReached (plain l.design) cell → has_wide_line table r cell ≡ has_wide_line other r cell
   one_lines table other a b cell reached =
@@ -251,7 +252,7 @@ module _ (lists : OneListLaw) (l m : Layout) (r : Rules) (s : IsSameLayout l m) 
       (λ o. ap (λ (x : LayerKey × List Rect). is_wide_line x.1) (one_line lists (plain l.design) r table other a b cell reached o))
 
   one_plain : plain l.design ≡ plain m.design
-  one_plain = same_plain l.design m.design s.cells s.top
+  one_plain = same_plain l.design m.design s.cells s.top way
 
   wide_too : (table other : List (Option CellLayers)) → AreLayers (plain l.design) r table → AreLayers (plain m.design) r other → (cell : ℕ) → flat.IsReached (plain l.design) cell → IsWideCell (plain l.design) r table cell → IsWideCell (plain m.design) r other cell
   wide_too table other a b cell reached (inl e) = inl (sym (one_lines table other a (subst (λ (f : flat.Design). AreLayers f r other) (sym one_plain) b) cell reached) ∙ e)
@@ -285,7 +286,7 @@ module _ (lists : OneListLaw) (l m : Layout) (r : Rules) (s : IsSameLayout l m) 
       a.narrow cell there (wide_back a.table b.table a.layers b.layers cell there b.first.1)
 
 pub one_wide : OneLayoutLaw → OneListLaw → OneWideLaw
-one_wide layouts lists bytes top l m r cell other x y a b = one_cell lists l m r (layouts bytes top l m x y) cell other a b
+one_wide layouts lists bytes top l m r cell other x y way a b = one_cell lists l m r (layouts bytes top l m x y) way cell other a b
 
 pub no_file : OneLayoutLaw → OneListLaw → NoFileLaw
-no_file layouts lists bytes top l m r cell x y a b = no_cell lists l m r (layouts bytes top l m x y) cell a b
+no_file layouts lists bytes top l m r cell x y way a b = no_cell lists l m r (layouts bytes top l m x y) way cell a b

@@ -13,11 +13,11 @@ pub record IsSameFile (one other : List ℕ) (cells others rectangles more : ℕ
   pub cell_count : cells ≡ others
   pub rectangle_count : rectangles ≡ more
 
--- whatever layouts the bytes were read as
+-- whatever layouts the bytes were read as, whose cells keep squares in one way
 abbrev pub OneFileLaw : Type 0
 OneFileLaw = (bytes : List ℕ) (top : Option (List ℕ)) (l m : Layout) (r : Rules)
     (text other : List ℕ) (cells others rectangles more : ℕ) → IsRead bytes top l
-    → IsRead bytes top m → IsShapesFile l r text cells rectangles
+    → IsRead bytes top m → l.design.way ≡ m.design.way → IsShapesFile l r text cells rectangles
     → IsShapesFile m r other others more
     → IsSameFile text other cells others rectangles more
 
@@ -28,10 +28,11 @@ pub record IsSameCell (l m : Layout) (cell other : ℕ) : Type 0 where
 
 abbrev pub OneWideLaw : Type 0
 OneWideLaw = (bytes : List ℕ) (top : Option (List ℕ)) (l m : Layout) (r : Rules) (cell other : ℕ)
-    → IsRead bytes top l → IsRead bytes top m → IsWide l r cell → IsWide m r other
-    → IsSameCell l m cell other
+    → IsRead bytes top l → IsRead bytes top m → l.design.way ≡ m.design.way → IsWide l r cell
+    → IsWide m r other → IsSameCell l m cell other
 
 -- and there isn't both
 abbrev pub NoFileLaw : Type 0
 NoFileLaw = (bytes : List ℕ) (top : Option (List ℕ)) (l m : Layout) (r : Rules) (cell : ℕ)
-    → IsRead bytes top l → IsRead bytes top m → IsNarrow l r → IsWide m r cell → ⊥
+    → IsRead bytes top l → IsRead bytes top m → l.design.way ≡ m.design.way → IsNarrow l r
+    → IsWide m r cell → ⊥

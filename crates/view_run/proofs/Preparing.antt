@@ -13,6 +13,7 @@ use Rattle.pair_jobs.specs.declared.verdict.Verdict.{Verdict}
 use Rattle.plain_netlist.specs.Netlist.{Netlist}
 use Rattle.rule_text.specs.Reading.{Means}
 use Rattle.rule_text.specs.Rules.{Rules}
+use Rattle.rule_layers.specs.Meaning.{way_of}
 use Rattle.spice_rows.specs.Sizes.{read_limit}
 use Rattle.spice_text.specs.Means.{Means as SpiceMeans}
 use Rattle.view_run.specs.Stated.{Asked}
@@ -31,9 +32,9 @@ module _ (q : Asked) (old mid : Store) (r : Rules) (apart : q.shared ≡ None) (
   pub layout_stop : (new : Store) (a : Answer) (e : End) → e ≡ AsRun a → RefusesLayout mid new q.layout q.top a → Stops (Some q) old new e
   layout_stop new a e same h = BadLayout q r mid a reads_rules rules.got.faults h same
 
-  module _ (late : Store) (l : Layout) (layout : ReadAs mid late q.layout (λ bytes. IsRead bytes q.top l)) where
+  module _ (late : Store) (l : Layout) (layout : ReadAs mid late q.layout (λ bytes. IsRead bytes q.top l)) (way : l.design.way ≡ way_of r) where
     reads_layout : ReadsLayout (Some q) old late q r l
-    reads_layout = record { mid = mid; rules = reads_rules; layout = layout }
+    reads_layout = record { mid = mid; rules = reads_rules; layout = layout; way = way }
 
     pub schematic_stop : (new : Store) (a : Answer) (e : End) → e ≡ AsRun a → RefusesSchematic late new q.schematic a → Stops (Some q) old new e
     schematic_stop new a e same h = BadSchematic q r l late a reads_layout (layout.got.faults ∙ rules.got.faults) h same

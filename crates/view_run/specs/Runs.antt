@@ -14,6 +14,7 @@ use Rattle.pair_jobs.specs.declared.verdict.Verdict.{Verdict}
 use Rattle.plain_netlist.specs.Netlist.{Netlist}
 use Rattle.rule_text.specs.Reading.{Means}
 use Rattle.rule_text.specs.Rules.{Rules}
+use Rattle.rule_layers.specs.Meaning.{way_of}
 use Rattle.spice_rows.specs.Sizes.{read_limit}
 use Rattle.spice_text.specs.Means.{Means as SpiceMeans}
 use Rattle.view_run.specs.Stated.{Asked}
@@ -31,7 +32,8 @@ pub record Asks (words : Option Asked) (q : Asked) : Type 0 where
 abbrev pub IsPageApart : Asked → Type 0
 IsPageApart q = IfSome q.page (λ path. q.database ≢ path)
 
--- the rule file was read whole, and then the layout's, and then the schematic's, with these meanings
+-- the rule file was read whole, and then the layout's, and then the schematic's, with these
+-- meanings; cells keep squares as the rules say
 pub record ReadsRules (words : Option Asked) (old new : Store) (q : Asked) (r : Rules)
     : Type 0 where
   pub asks : Asks words q
@@ -42,6 +44,7 @@ pub record ReadsLayout (words : Option Asked) (old new : Store) (q : Asked) (r :
   pub mid : Store
   pub rules : ReadsRules words old mid q r
   pub layout : ReadAs mid new q.layout (λ bytes. IsRead bytes q.top l)
+  pub way : l.design.way ≡ way_of r
 
 pub record ReadsAll (words : Option Asked) (old new : Store) (q : Asked) (r : Rules) (l : Layout)
     (nl : Netlist) : Type 0 where

@@ -1,5 +1,5 @@
-use Rattle.deep_tables.proofs.Framing.{framed}
+use Rattle.deep_tables.proofs.Framing.{framed, framed_open}
 use Rattle.deep_tables.proofs.laws.zone_frames.Goals as goal
 
 pub returns : goal.returns
-returns c = framed
+returns c = record { disturbed = framed; left = framed_open }
