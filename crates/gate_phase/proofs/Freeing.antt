@@ -66,11 +66,11 @@ module _ (n : ℕ) (d : Linked) (z : List (Option CellZones)) (device : ℕ) (pa
   pub not_free_in : (b : Bool) → (b ≡ true) ↔ IsFree n close m frame zone → b ≡ false → (false ≡ true) ↔ IsFreeIn n d z device part close cell m
   not_free_in b told off = ((λ e. absurd (let y : ⊥ = cc in y)), (λ h. sym off ∙ told.1 (free_of h)))
 
-  pub free_in : (there : List Rect) (lone : Option (List Rect)) (b : Bool) → IsFree n close m frame zone → ((q : Square) → covers there q ≡ covers part (moved_square m q)) → lone ≡ lone_of z cell device → (b ≡ true) ↔ IsMine lone (in_set there)
+  pub free_in : (there : List Rect) (others : Option (List Rect)) (b : Bool) → IsFree n close m frame zone → ((q : Square) → covers there q ≡ covers part (moved_square m q)) → others ≡ lone_of z cell device → (b ≡ true) ↔ IsMine others (in_set there)
       → (b ≡ true) ↔ IsFreeIn n d z device part close cell m
-  free_in there lone b free pulled lone_is told = (
+  free_in there others b free pulled others_is told = (
     (λ e.
-        let s : IsMine (lone_of z cell device) (in_set there) = subst (λ o. IsMine o (in_set there)) lone_is (told.0 e) in
+        let s : IsMine (lone_of z cell device) (in_set there) = subst (λ o. IsMine o (in_set there)) others_is (told.0 e) in
         record {
           hull = hull;
           hull_is = hull_is;
@@ -79,7 +79,7 @@ module _ (n : ℕ) (d : Linked) (z : List (Option CellZones)) (device : ℕ) (pa
           free = subst (λ (f : Rect). IsFree n close m f zone) frame_is free;
           mine = record { square = s.square; has = sym (pulled s.square) ∙ s.has; alone = s.alone };
         }),
-    (λ h. told.1 (subst (λ o. IsMine o (in_set there)) (sym lone_is) (record { square = h.mine.square; has = pulled h.mine.square ∙ h.mine.has; alone = h.mine.alone }))),
+    (λ h. told.1 (subst (λ o. IsMine o (in_set there)) (sym others_is) (record { square = h.mine.square; has = pulled h.mine.square ∙ h.mine.has; alone = h.mine.alone }))),
   )
 
 -- a visit's cell has its entry

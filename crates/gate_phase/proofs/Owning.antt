@@ -147,9 +147,9 @@ module _ (d : Design) (w : Wiring) (u : Rule) (cell : ℕ) (gathered : List Rect
   }
 
 -- where the cell leaves nothing near, it counts whether others can make the part
-pub told_kept : (n : ℕ) (z : List (Option CellZones)) (cell device : ℕ) (part close : List Rect) (lone : Option (List Rect)) (b : Bool) → MissesOpen n z cell device close → lone ≡ lone_of z cell device → (b ≡ true) ↔ IsMine lone (in_set part)
+pub told_kept : (n : ℕ) (z : List (Option CellZones)) (cell device : ℕ) (part close : List Rect) (others : Option (List Rect)) (b : Bool) → MissesOpen n z cell device close → others ≡ lone_of z cell device → (b ≡ true) ↔ IsMine others (in_set part)
     → (b ≡ true) ↔ IsKeptPart n z cell device part close
-told_kept n z cell device part close lone b calm is told = (
+told_kept n z cell device part close others b calm is told = (
   (λ e. record { calm = calm; mine = subst (λ o. IsMine o (in_set part)) is (told.0 e) }),
   (λ k. told.1 (subst (λ o. IsMine o (in_set part)) (sym is) k.mine)),
 )

@@ -109,7 +109,7 @@ moved_in n (Some g) p row column s plane most sound all near a b h =
     (moved_rect-has m (grown n g) s frame.some ∙ h)
 
 -- in the hull, grown by so many
-in_frame : ℕ → Option Rect → Square → Bool
+abbrev in_frame : ℕ → Option Rect → Square → Bool
 in_frame n None q = false
 in_frame n (Some h) q = has (grown n h) q
 
@@ -122,7 +122,7 @@ frame_has n None q h = absurd h
 frame_has n (Some r) q h = h
 
 -- a set that is there has the square
-any_covers : Option (List Rect) → Square → Bool
+abbrev any_covers : Option (List Rect) → Square → Bool
 any_covers None q = false
 any_covers (Some set) q = covers set q
 
@@ -236,7 +236,7 @@ module _ (d : Linked) (r : Rules) (z : List (Option CellZones)) (cell device : �
   near_there way q h = record { square = h.square; within = subst (λ m. AreWithin m h.square q) is h.within; has = seed_there way h.square h.seed }
 
   -- where the cells keep what they cover: what the tables have near a placed cell's shapes
-  left_by : ℕ → Square → Bool
+  abbrev left_by : ℕ → Square → Bool
   left_by c q = in_frame ((N + 1) + N) (hull_of (cell_at d c)) q && (any_covers (zone_of z c (kind.Device device)) q || any_covers (lone_of z c device) q)
 
   left_near : (c : ℕ) (q : Square) → IsInGrown ((N + 1) + N) (hull_of (cell_at d c)) q → (any_covers (zone_of z c (kind.Device device)) q ≡ true) ⊎ (any_covers (lone_of z c device) q ≡ true) → left_by c q ≡ true
@@ -251,20 +251,20 @@ module _ (d : Linked) (r : Rules) (z : List (Option CellZones)) (cell device : �
           | inl e ↦ absurd (not (left_near p.cell q wide (inl e)))
           | inr shut ↦ shut
         ];
-    lone = λ k p q placed near not lone.
+    lone = λ k p q placed near not made.
         let o = hull_of (cell_at d p.cell) in
         let set = lone_at d r z p.cell device u sound right (reached_below (plain d) cell k p reached placed) at way in
         let close = reach_grown d K N p.cell q sound near in
-        let has = (set.each q (wider_grown N (N + 1) o q (omega arith) close)).1 lone in
+        let has = (set.each q (wider_grown N (N + 1) o q (omega arith) close)).1 made in
         not (left_near p.cell q (wider_grown N ((N + 1) + N) o q (omega arith) close) (inr (any_from (lone_of z p.cell device) set.set q set.is has)));
   }
 
   tabled_there : (q : Square) → IsTabledSeed (plain d) left_by cell q → covers out q ≡ true
   tabled_there q h =
       let c = h.place.cell in let s = h.square in
-      let zone = any_covers (zone_of z c (kind.Device device)) s in let lone = any_covers (lone_of z c device) s in
-      let both = and_parts (in_frame ((N + 1) + N) (hull_of (cell_at d c)) s) (zone || lone) h.has in
-      brought h.number h.place s q h.placed (frame_from ((N + 1) + N) (hull_of (cell_at d c)) s both.0) (or_cases zone lone both.1) h.image
+      let zone = any_covers (zone_of z c (kind.Device device)) s in let others = any_covers (lone_of z c device) s in
+      let both = and_parts (in_frame ((N + 1) + N) (hull_of (cell_at d c)) s) (zone || others) h.has in
+      brought h.number h.place s q h.placed (frame_from ((N + 1) + N) (hull_of (cell_at d c)) s both.0) (or_cases zone others both.1) h.image
 
   open_seed : (q : Square) → IsOwnSeed (plain d) K cell q ⊎ IsTabledSeed (plain d) left_by cell q → covers out q ≡ true
   open_seed q (inl h) = own_there q h

@@ -80,7 +80,7 @@ fn push_told(
     requires pieces { All (IsPiece plane.now) out.old.items }
     ensures pieces { OnOk result (All (IsPiece plane.now) out.new.items) }
     ensures grows { OnOk result (Grows out.old.items out.new.items) }
-    ensures brings { OnOk result ((s : List Rect) → option_map (λ t. t.now) set ≡ Some s
+    ensures brings { OnOk result ((s : List Rect) → option_map (λ t. t.now) set.entry ≡ Some s
         → Brings place.now below.now s plane.now out.new.items) }
 {
     match set {
