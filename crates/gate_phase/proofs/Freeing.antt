@@ -23,8 +23,11 @@ use Rattle.gate_shapes.specs.Sets.{in_set}
 use Rattle.gate_phase.specs.Below.{IsFree, IsFreeElement, IsFreeIn}
 use Rattle.deep_tables.specs.Zones.{lone_of}
 use Rattle.gate_phase.specs.Close.{AreApart, AreOpen, HasOpen, HasOpenBelow, IsMine}
-use Rattle.gate_phase.proofs.Closing.{not_true}
 use Rattle.gate_phase.proofs.Keeping.{in_one, listed_has, low_in, low_square, one_window}
+
+not_true : (b : Bool) → not b ≡ true → b ≡ true → ⊥
+not_true true e f = let g : false ≡ true = e in let z : ⊥ = cc in z
+not_true false e f = let z : ⊥ = cc in z
 
 module _ (n : ℕ) (close there outside zone : List Rect) (m : Motion) (frame : Rect) (pulled : (q : Square) → covers there q ≡ covers close (moved_square m q)) (cut : (q : Square) → covers outside q ≡ (covers there q && not (covers (frame ∷ []) q))) where
   -- a square outside the frame isn't free

@@ -19,9 +19,7 @@ use Rattle.cell_graph.proofs.Growing.{wider_grown}
 use Rattle.gate_phase.proofs.Seeding.{flat_grown}
 use Rattle.gate_phase.proofs.Telling.{kept_flat, part_kept}
 use Rattle.deep_tables.specs.declared.zones.CellZones.{CellZones}
-use Rattle.deep_tables.specs.Zones.{lone_of}
 use Rattle.gate_phase.specs.Below.{IsFreeElement}
-use Rattle.gate_phase.specs.Close.{IsMine, MissesOpen}
 use Rattle.gate_phase.specs.Own.{AddsPart, AreOwnGates, IsHeldPart, IsKeptPart, IsOwnGate, IsOwnOr, IsToldPart, TellsOwn, gates_in, unit_window}
 use Rattle.gate_phase.specs.declared.own.OwnGate.{OwnGate}
 
@@ -145,14 +143,6 @@ module _ (d : Design) (w : Wiring) (u : Rule) (cell : ℕ) (gathered : List Rect
     rising = h.rising;
     parted = known_law d g cell seeds gathered parts search (λ i part s at inside settled. h.parted i part s (let lt = slice_get_within parts i part at in omega arith) at inside settled);
   }
-
--- where the cell leaves nothing near, it counts whether others can make the part
-pub told_kept : (n : ℕ) (z : List (Option CellZones)) (cell device : ℕ) (part close : List Rect) (others : Option (List Rect)) (b : Bool) → MissesOpen n z cell device close → others ≡ lone_of z cell device → (b ≡ true) ↔ IsMine others (in_set part)
-    → (b ≡ true) ↔ IsKeptPart n z cell device part close
-told_kept n z cell device part close others b calm is told = (
-  (λ e. record { calm = calm; mine = subst (λ o. IsMine o (in_set part)) is (told.0 e) }),
-  (λ k. told.1 (subst (λ o. IsMine o (in_set part)) (sym is) k.mine)),
-)
 
 -- what the tests tell together
 pub told_own : (n : ℕ) (d : Linked) (z : List (Option CellZones)) (cell device : ℕ) (part close : List Rect) (least : Square) (window : Rect) (b : Bool) → window ≡ unit_window least → IsKeptPart n z cell device part close → (b ≡ true) ↔ IsFreeElement n d z cell device part close window
