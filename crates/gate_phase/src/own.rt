@@ -150,7 +150,7 @@ fn push_part(
 
 /// The gates of a cell's own for a device rule, in order of their least squares, each with its
 /// shape. What placed cells hold themselves isn't looked at but where something of this cell, or
-/// something that disturbs a placed cell, lies beside it.
+/// something that a placed cell leaves, lies beside it.
 pub fn own_gates(alloc: Global, at: &DeviceSite) -> Result<Vec<OwnGate>, AllocError>
     requires ready { IsReadyDevice at.now }
     ensures { IfOk result (λ v. (u : Rule) → HasRule at.now u

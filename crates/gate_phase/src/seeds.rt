@@ -207,9 +207,9 @@ fn push_all_own(
 
 /// Squares of a cell around which all its own gates for a device rule lie: each gate that isn't a
 /// placed cell's touches one of them. They are all squares within the rule's reach of its seeds. A
-/// cell costs its own rectangles on the layers that the rule reads and, for each reference, what is
-/// disturbed in the placed cell, once for each element; a reference to a cell in which nothing is
-/// disturbed costs one look.
+/// cell costs its own rectangles on the layers that the rule reads and, for each reference, what the
+/// placed cell leaves and what others may make there, once for each element; a reference to a cell
+/// that leaves nothing costs one look.
 pub fn seeds_of(alloc: Global, at: &DeviceSite) -> Result<RectSet, AllocError>
     requires ready { IsReadyDevice at.now }
     ensures near { IfOk result IsNearSet }
