@@ -4,18 +4,19 @@ use Rattle.std.proofs.lemmas.Bool.{cases_Bool, eqb-true, and_parts, and_from, or
 use Rattle.deep_tables.specs.Zones.{IsAsked}
 use Rattle.std.proofs.Common.{◌≡◌, ◌⊎◌, ◌↔◌, inl, inr, ℕ, ◌+◌, ◌≤◌, arith, Bool, true, false, not, ◌&&◌, ◌||◌, ◌==◌, List, [], ◌∷◌, Option, Some, refl, sym, ◌∙◌, ap, subst, slice_get}
 use Rattle.geo_base.specs.Motions.{moved_square}
+use Rattle.geo_base.specs.declared.layer.LayerKey.{LayerKey}
 use Rattle.geo_base.specs.declared.shapes.Rect.{Rect}
 use Rattle.geo_base.specs.declared.shapes.Square.{Square}
 use Rattle.rect_sets.specs.Rects.{covers, IsCanonical}
 use Rattle.flat_layout.specs.Layers.{Formula, Input, Binary, Sized, Empty, inputs, reach, InFlat, IsShut}
 use Rattle.flat_layout.specs.Layout as flat
-use Rattle.flat_layout.specs.Plane.{AreWithin, IsHeldBy}
+use Rattle.flat_layout.specs.Plane.{IsHeldBy}
 use Rattle.flat_layout.specs.Values.{IsLocalLayer}
 use Rattle.flat_laws.proofs.Cover.{reached_below}
-use Rattle.flat_laws.proofs.Moves.{farther, within_back, within_same}
+use Rattle.flat_laws.proofs.Moves.{within_back, within_same}
 use Rattle.cell_graph.specs.Linked.{Linked, IsSound, cell_at, hull_of, motion_at, plain}
 use Rattle.cell_graph.proofs.Bridge.{hulls, hull_sound, own, step_of}
-use Rattle.cell_graph.proofs.Growing.{within_grown, wider_grown}
+use Rattle.cell_graph.proofs.Growing.{within_grown}
 use Rattle.deep_laws.specs.Layers.{IsDerived, IsFromOpen, IsNearOwn}
 use Rattle.flat_laws.proofs.Shut.{shut_both, shut_none}
 use Rattle.rule_text.specs.Rules.{Rules}

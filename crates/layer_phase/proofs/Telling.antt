@@ -1,7 +1,5 @@
 -- A right table tells what placed cells keep.
-use Rattle.std.proofs.Common.{◌≡◌, ◌↔◌, inl, inr, ℕ, true, false, List, Option, Some, refl, sym, ◌∙◌, ap, subst, slice_get}
-use Rattle.base_laws.proofs.Tests.{not_both}
-use Rattle.std.proofs.lemmas.Bool.{cases_Bool}
+use Rattle.std.proofs.Common.{◌≡◌, ◌↔◌, ℕ, false, List, Option, Some, sym, ◌∙◌, ap, subst, slice_get}
 use Rattle.geo_base.specs.declared.shapes.Rect.{Rect}
 use Rattle.geo_base.specs.Motions.{moved_square}
 use Rattle.geo_base.specs.declared.shapes.Square.{Square}

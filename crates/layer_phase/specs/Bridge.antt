@@ -12,8 +12,8 @@ use Rattle.deep_tables.specs.Zones.{AreZones, IsAsked}
 use Rattle.layer_phase.specs.Parts.{IsFromCalmHull, HaveZones}
 use Rattle.layer_phase.specs.Keeps.{HaveEntries, IsKeptBy}
 
--- a table of disturbed squares has the entries of all placed cells, decides what is disturbed
--- there, and tells what they keep
+-- a table of what cells leave has the entries of all placed cells, decides where all is shut there,
+-- and tells what they keep
 pub record TellsKept (n : ℕ) (d : Linked) (z : List (Option CellZones)) (x : Formula)
     (cell name : ℕ) : Type 0 where
   pub entries : HaveEntries d z cell name

@@ -1,4 +1,4 @@
--- What placed cells keep, by the table of disturbed squares.
+-- What placed cells keep, by the table of what they leave.
 use Rattle.std.specs.Prelude.{◌≡◌, ℕ, false, List, Option, Some}
 use Rattle.geo_base.specs.Motions.{moved_square}
 use Rattle.geo_base.specs.declared.shapes.Rect.{Rect}
@@ -24,8 +24,8 @@ abbrev pub HaveEntries : Linked → List (Option CellZones) → ℕ → ℕ → 
 HaveEntries d z cell name = (i row column : ℕ) (p : Place) → IsStep d cell i row column p
     → HasEntry z p.cell name
 
--- a square of a placed cell's hull, grown by n, comes to q, within n of which nothing is disturbed
--- there
+-- a square of a placed cell's hull, grown by n, comes to q, within n of which the cell leaves
+-- nothing
 pub record IsKeptBy (n : ℕ) (d : Linked) (z : List (Option CellZones)) (cell name : ℕ)
     (q : Square) : Type 0 where
   pub index : ℕ

@@ -40,8 +40,8 @@ abbrev pub IsInput : List LayerRule → ℕ → LayerKey → Type 0
 IsInput names name key = (rule : LayerRule) × (slice_get names name ≡ Some rule)
     × (rule.form ≡ form.Input key)
 
--- a square of a cell within n of which something is disturbed for an input layer of the names, and
--- a square flat on one
+-- a square of a cell within n of which it leaves a square for an input layer of the names, and has
+-- a flat one on one
 pub record IsExposed (n : ℕ) (d : Linked) (z : List (Option CellZones)) (names : List LayerRule)
     (cell : ℕ) (s : Square) : Type 0 where
   pub name : ℕ
@@ -76,7 +76,7 @@ abbrev pub IsListAt : List Exposed → ℕ → ℕ → Type 0
 IsListAt lists cell position = (e : Exposed) × (slice_get lists position ≡ Some e)
     × (e.cell ≡ cell)
 
--- the squares that are disturbed for one of the first input layers are covered
+-- the squares that the cell leaves for one of the first input layers are covered
 abbrev pub HaveDisturbed : List (Option CellZones) → List LayerRule → ℕ → ℕ → List Rect → Type 0
 HaveDisturbed z names bound cell rects = (name : ℕ) (key : LayerKey) → name < bound
     → IsInput names name key
@@ -129,14 +129,14 @@ abbrev pub HaveMarked : List (Option CellZones) → ℕ → List Bool → Type 0
 HaveMarked z cell marks = (name : ℕ) → name < length marks → get_or marks name false ≡ true
     → HasEntry z cell name
 
--- squares that are disturbed in the cell for each of the first names that is marked
+-- squares that the cell leaves for each of the first names that is marked
 abbrev pub AreStirredFor : List (Option CellZones) → ℕ → List Bool → ℕ → List Rect → Type 0
 AreStirredFor z cell marks bound set = (name : ℕ) → name < bound → get_or marks name false ≡ true
     → (zone : List Rect) → IsZoneAt z cell name zone → Grows set zone
 
 -- squares within plus or minus 2^37, with all those within n of the cell's own on input layers, and
--- with all images of what is exposed in placed cells, but of such as are disturbed in the cell for
--- all marked names
+-- with all images of what is exposed in placed cells, but of such as the cell leaves for all marked
+-- names
 pub record AreLooks (n : ℕ) (d : Linked) (z : List (Option CellZones)) (names : List LayerRule)
     (marks : List Bool) (cell : ℕ) (looks : List Rect) : Type 0 where
   pub within : IsSetWithin (2 ^ 37) looks
@@ -150,8 +150,8 @@ pub record AreLooks (n : ℕ) (d : Linked) (z : List (Option CellZones)) (names 
       ⊎ (covers stirred (moved_square (motion_at p row column) s) ≡ true)
 
 -- squares that have to be looked at for a derived name that reaches n squares far: the input layers
--- count that it is seen to be made of, and names that it isn't made of may be left out; where all
--- marked names are disturbed, of which it is one, there need be none
+-- count that it is seen to be made of, and names that it isn't made of may be left out; what the
+-- cell leaves for all marked names, of which it is one, need not be there
 pub record AreReadLooks (n : ℕ) (d : Linked) (z : List (Option CellZones)) (names : List LayerRule)
     (name cell : ℕ) (looks : List Rect) : Type 0 where
   pub seen : List LayerRule

@@ -38,7 +38,7 @@ AreLocals d cell trees sets = (k : ℕ) (x : Formula) (set : List Rect)
     → slice_get trees k ≡ Some x → slice_get sets k ≡ Some set
     → IsLocalLayer (plain d) x cell set
 
--- sound rules, a reached cell of a layout with its hulls, and right disturbed squares for the rules
+-- sound rules, a reached cell of a layout with its hulls, and what its cells leave for the rules
 pub record IsReady (d : Linked) (r : Rules) (z : List (Option CellZones)) (cell : ℕ) : Type 0 where
   pub rules : IsSound r
   pub hulls : HasHulls d

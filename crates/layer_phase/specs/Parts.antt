@@ -23,8 +23,8 @@ pub record IsFromCalmHull (d : Linked) (name : Formula) (cell : ℕ) (q : Square
   pub calm : IsCalmAt (plain d) (inputs name) (reach name) place.cell square
   pub image : moved_square place.motion square ≡ q
 
--- squares that are looked at, where nothing is disturbed, the flat ones of these, those of the cell's
--- grown hull near which something is disturbed, and those that placed cells keep
+-- squares that are looked at, the flat ones of these, those of the cell's grown hull near which not
+-- all is shut, and those that placed cells keep
 pub record AreParts (d : Linked) (name : Formula) (cell : ℕ) (places flat zone calm : List Rect) :
     Type 0 where
   pub own : (q : Square) → IsNearOwn (plain d) cell name q → covers places q ≡ true
@@ -37,14 +37,14 @@ pub record AreParts (d : Linked) (name : Formula) (cell : ℕ) (places flat zone
   pub calms : (q : Square) → covers places q ≡ true → (covers calm q ≡ true)
       ↔ IsFromCalmHull d name cell q
 
--- the placed cells have their disturbed squares, in their hulls grown by n
+-- what the placed cells leave is told, in their hulls grown by n
 abbrev pub HaveZones : ℕ → Linked → Formula → ℕ → Type 0
 HaveZones n d name cell = (k : ℕ) (p : Place) → IsPlaced (plain d) cell k p → (zone : List Rect)
     × IsFramedOpen n d (inputs name) p.cell zone × IsCanonical zone
 
--- flat squares among those looked at, without those near which something is disturbed and those
--- that placed cells keep: the cell's layer. The disturbed squares of placed cells count twice as
--- far as the name reaches
+-- flat squares among those looked at, without those near which not all is shut and those that
+-- placed cells keep: the cell's layer. What placed cells leave counts twice as far as the name
+-- reaches
 abbrev pub LayerLaw : Type 0
 LayerLaw = (n : ℕ) (d : Linked) (name : Formula) (cell : ℕ) (places flat zone calm local : List
     Rect) → IsDerived name → reach name + reach name ≤ n → IsSound d → IsReached (plain d) cell

@@ -7,7 +7,7 @@ use Rattle.layer_phase.specs.Names.{IsReady}
 use Rattle.layer_phase.specs.declared.work.CellWork.{CellWork}
 use Rattle.layer_phase.specs.declared.work.View.{View}
 
--- a reached cell of a layout, with right disturbed squares for sound rules
+-- a reached cell of a layout, with what its cells leave for sound rules
 pub record IsWork (w : CellWork) : Type 0 where
   pub inside : w.cell < length w.design.now.cells
   pub ready : IsReady w.design.now (rules_seen w.rules.now) w.zones.now w.cell

@@ -1,6 +1,6 @@
-//! The squares of placed cells that have to be looked at, found once for each cell: those that are
-//! disturbed for an input layer and flat on one. Everywhere else the placed cell keeps what lies
-//! there, or nothing lies there.
+//! The squares of placed cells that have to be looked at, found once for each cell: those that it
+//! leaves for an input layer and that are flat on one. Everywhere else the placed cell keeps what
+//! lies there, or nothing lies there.
 ghost use Rattle.std.specs.Prelude.{◌≡◌, ◌<◌, ◌≤◌, ◌^◌, [], ◌++◌, ◌∷◌, ℕ, List, Some, length};
 ghost use Rattle.std.specs.Prelude.{◌⊎◌, slice_get, true, IfOk, IfSome, OnOk};
 ghost use Rattle.std.specs.List.{All};
@@ -23,9 +23,8 @@ ghost use Rattle.cell_context.specs.Placed.{Grows};
 ghost use Rattle.layer_phase.specs.Looks.{HaveDisturbed, HaveFlat, HoldDisturbed, IsListAt};
 
 use crate::grown::{sized, twice_around, twice_grown};
-use crate::parts::input_squares;
 use crate::work::View;
-use cell_context::grown;
+use cell_context::{collect_in, grown};
 use cell_graph::Design;
 use deep_tables::{ZoneKey, Zones};
 use geo_base::{Op, Rect};
@@ -69,7 +68,7 @@ impl ExposedLists {
     }
 }
 
-// Adds a cell's disturbed squares for a name, where it is an input layer.
+// Adds the squares that a cell leaves for a name, where it is an input layer.
 fn push_disturbed(
     out: &mut Vec<Rect>,
     zones: &Zones,
@@ -113,7 +112,7 @@ fn push_all_disturbed(
     Ok(())
 }
 
-// A cell's squares in a window that are disturbed for one of the input layers.
+// The squares in a window that a cell leaves for one of the input layers.
 fn disturbed_in(
     alloc: Global,
     zones: &Zones,
@@ -156,7 +155,7 @@ fn push_flat(
 {
     match form {
         LayerForm::Input(key) => {
-            let set = input_squares(alloc, design, cell, key, places)?;
+            let set = collect_in(alloc, design, cell, key, places)?;
             out.extend_from_slice(set.rects())
         }
         _ => Ok(()),
@@ -256,7 +255,7 @@ fn hull_exposed(alloc: Global, view: &View, cell: u32, hull: &Rect) -> Result<Re
     Ok(set)
 }
 
-// The exposed squares of a cell: a walk in what is disturbed for each input layer.
+// The exposed squares of a cell: a walk in what it leaves for each input layer.
 fn find_exposed(alloc: Global, view: &View, cell: u32) -> Result<RectSet, AllocError>
     requires cell { cell < length view.now.design.now.cells }
     requires view { IsView view.now }

@@ -12,8 +12,8 @@ ghost use Rattle.layer_phase.specs.Looks.{AreNear, IsInput};
 ghost use Rattle.cell_context.specs.Placed.{Grows};
 ghost use Rattle.layer_phase.specs.Names.{AreFlats, IsFlatIn};
 
-use crate::parts::input_squares;
 use crate::squares::Squares;
+use cell_context::collect_in;
 use cell_graph::Design;
 use geo_base::{LayerKey, Op};
 use rect_sets::RectSet;
@@ -87,7 +87,7 @@ fn input_flat<'a>(
     if design.places(cell).is_empty() {
         return Ok(Squares::lent(design.own(cell, key)));
     }
-    let set = input_squares(alloc, design, cell, key, looks)?;
+    let set = collect_in(alloc, design, cell, key, looks)?;
     let flat = Squares::own(set);
     Ok(flat)
 }

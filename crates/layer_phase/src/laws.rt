@@ -8,7 +8,7 @@ pub fn layer_law()
     ensures input { InputLayerLaw }
 {}
 
-/// A right table of disturbed squares tells what placed cells keep.
+/// A right table of what cells leave tells what placed cells keep.
 pub fn kept_law()
     ensures { KeptLaw }
 {}

@@ -62,7 +62,7 @@ fn seen(alloc: Global, flat: Squares<'_>, looks: &RectSet, far: u32) -> Result<R
     flat.set().combined(alloc, looks, Op::And)
 }
 
-// Squares that aren't near disturbed ones, nor kept by placed cells.
+// Squares that aren't near those that the cell leaves, nor kept by placed cells.
 fn undisturbed(
     alloc: Global,
     squares: RectSet,
@@ -79,7 +79,7 @@ fn undisturbed(
     local_squares(alloc, squares, stirred.set(), calm)
 }
 
-// Of a derived name it holds flat squares near which nothing is disturbed and that no placed cell
+// Of a derived name it holds flat squares near which it leaves nothing and that no placed cell
 // keeps.
 fn derived_layer(
     alloc: Global,

@@ -265,9 +265,9 @@ fn hull_looks(alloc: Global, view: &View, cell: u32, hull: &Rect) -> Result<Rect
 }
 
 /// The squares of a cell that have to be looked at. An array costs one look; beside that a placed
-/// cell costs a walk in what is disturbed there, once for all its placements, and each element the
-/// rectangles of what is exposed in it. What is disturbed in the cell itself for all members of the
-/// group isn't looked at, but where own shapes lie.
+/// cell costs a walk in what it leaves, once for all its placements, and each element the
+/// rectangles of what is exposed in it. What the cell itself leaves for all members of the group
+/// isn't looked at, but where own shapes lie.
 pub fn looks(alloc: Global, view: &View, cell: u32) -> Result<RectSet, AllocError>
     requires cell { cell < length view.now.design.now.cells }
     requires view { IsView view.now }

@@ -7,7 +7,7 @@ ghost use Rattle.geo_base.specs.declared.shapes.Rect.{Rect as Rectangle};
 ghost use Rattle.geo_base.specs.declared.shapes.Square.{Square};
 ghost use Rattle.rect_sets.specs.Rects.{covers};
 ghost use Rattle.flat_layout.specs.Layers.{Formula, IsLocal};
-ghost use Rattle.flat_layout.specs.Layout.{InFlatInput, IsReached};
+ghost use Rattle.flat_layout.specs.Layout.{IsReached};
 ghost use Rattle.cell_graph.specs.Linked.{IsFrame, IsRectWithin, plain};
 ghost use Rattle.layer_phase.specs.Around.{around};
 ghost use Rattle.layer_phase.specs.Keeps.{HasEntry, HaveEntries, IsKeptBy, IsZoneAt};
@@ -17,39 +17,14 @@ ghost use Rattle.layer_phase.specs.Looks.{AreNear};
 
 use crate::grown::sized;
 use crate::work::CellWork;
-use cell_context::{Visit, gather, grown, push_images, push_pieces, visits};
+use cell_context::{Visit, grown, push_images, push_pieces, visits};
 use cell_graph::Design;
 use deep_tables::{ZoneKey, Zones};
-use geo_base::{LayerKey, Op, Rect};
+use geo_base::{Op, Rect};
 use rect_sets::{RectSet, combine_rects};
 use std::alloc::{AllocError, Global};
 
-/// The flat squares of a cell on an input layer among the squares that are looked at: one walk for
-/// each rectangle of these.
-pub fn input_squares(
-    alloc: Global,
-    design: &Design,
-    cell: u32,
-    key: LayerKey,
-    places: &RectSet,
-) -> Result<RectSet, AllocError>
-    requires cell { cell < length design.now.cells }
-    requires near { AreNear places.now }
-    ensures { IfOk result (λ r. (q : Square) → (covers r q ≡ true)
-        ↔ ((covers places.now q ≡ true) × InFlatInput (plain design.now) cell key q)) }
-{
-    design.sound();
-    let mut out = Vec::new(alloc);
-    for rect in places.rects() {
-        let more = gather(alloc, design, cell, key, rect, None)?;
-        out.extend_from_slice(&more)?;
-    }
-    let set = RectSet::canon(alloc, out)?;
-    Ok(set)
-}
-
-// What is disturbed for a name in a visited cell and lies in a window, as pieces of it: found by
-// the index.
+// What a visited cell leaves for a name in a window, as pieces of it: found by the index.
 fn disturbed_near(
     alloc: Global,
     zones: &Zones,
@@ -96,8 +71,8 @@ fn cut_near(
     combine_rects(alloc, &[*window], stirred.rects(), Op::Not)
 }
 
-// The part of a visit's window near which nothing is disturbed in the visited cell: only what is
-// disturbed in the grown window is looked at.
+// The part of a visit's window near which the visited cell leaves nothing: only what it leaves in
+// the grown window is looked at.
 fn calm_part(
     alloc: Global,
     zones: &Zones,
@@ -118,7 +93,7 @@ fn calm_part(
 }
 
 /// What the placed cells keep of a name's flat squares in a window: the parts of their hulls, grown
-/// by the name's reach, near which nothing is disturbed.
+/// by the name's reach, near which they leave nothing.
 pub fn calm_pieces(
     alloc: Global,
     work: &CellWork,
@@ -180,7 +155,7 @@ fn without(alloc: Global, set: RectSet, other: &RectSet) -> Result<RectSet, Allo
     set.combined(alloc, other, Op::Not)
 }
 
-/// A cell's layer: flat squares, without the disturbed ones and those that placed cells keep.
+/// A cell's layer: flat squares, without those that it leaves and those that placed cells keep.
 pub fn local_squares(
     alloc: Global,
     flat: RectSet,

@@ -19,7 +19,7 @@ use std::marker::Model;
 use std::snapshot::Snapshot;
 
 /// The squares that each cell that the top reaches holds itself, for each name of the rules. Its
-/// jobs go through the design's order. They read the disturbed squares alone, so none waits for
+/// jobs go through the design's order. They read what cells leave alone, so none waits for
 /// another.
 #[derive(Drop)]
 pub struct LayerPhase<'a> {
@@ -41,7 +41,7 @@ impl<'a> Model for LayerPhase<'a> {
 }
 
 impl<'a> LayerPhase<'a> {
-    /// The phase of a layout and of its disturbed squares for these rules. 2^32 names or more are
+    /// The phase of a layout and of what its cells leave for these rules. 2^32 names or more are
     /// refused. Linear in the reached cells, and in the names for each reach.
     pub fn new(
         alloc: Global,

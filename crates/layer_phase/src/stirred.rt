@@ -1,5 +1,5 @@
-//! What is disturbed in a cell for all derived names of a group: of this the cell holds nothing, so
-//! that it needn't be looked at.
+//! What a cell leaves to those above for all derived names of a group: of this it holds nothing,
+//! so that it needn't be looked at.
 ghost use Rattle.std.specs.Prelude.{◌≡◌, ◌<◌, ◌^◌, ◌&&◌, not, ℕ, List, true, length, IfOk};
 ghost use Rattle.std.specs.List.{All};
 ghost use Rattle.geo_base.specs.Rects.{IsRect};
@@ -26,7 +26,7 @@ fn shared(alloc: Global, set: RectSet, other: &RectSet) -> Result<RectSet, Alloc
     set.combined(alloc, other, Op::And)
 }
 
-// Those of a set that are disturbed for a name, where it is marked.
+// Those of a set that the cell leaves for a name, where it is marked.
 fn disturbed_of(
     alloc: Global,
     zones: &Zones,
@@ -47,7 +47,7 @@ fn disturbed_of(
     shared(alloc, set, zone)
 }
 
-/// Those squares of a set that are disturbed in a cell for all members of the view's group. A set
+/// Those squares of a set that a cell leaves for all members of the view's group. A set
 /// that is or becomes empty costs nothing more.
 pub fn stirred_of(
     alloc: Global,

@@ -4,7 +4,7 @@ use cell_graph::Design;
 use deep_tables::Zones;
 use rule_text::{LayerRule, RuleSet};
 
-/// A reached cell of a layout, with the rules and the layout's disturbed squares for them.
+/// A reached cell of a layout, with the rules and the squares that cells leave for them.
 #[derive(Drop)]
 pub struct CellWork<'a> {
     pub design: &'a Design,
@@ -13,8 +13,8 @@ pub struct CellWork<'a> {
     pub cell: u32,
 }
 
-/// A layout and its disturbed squares, as the derived names of one reach see them: `members` tells
-/// which these are.
+/// A layout and the squares that its cells leave, as the derived names of one reach see them:
+/// `members` tells which these are.
 #[derive(Drop)]
 pub struct View<'a> {
     pub design: &'a Design,

@@ -18,3 +18,6 @@ pub mod Graphing
 pub mod Uniting
 pub mod Using
 pub mod Working
+pub mod Nearby
+pub mod Loning
+pub mod Baring

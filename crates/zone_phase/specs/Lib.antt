@@ -1,6 +1,7 @@
 pub mod Framed
 pub mod Graph
 pub mod Jobs
+pub mod Lone
 pub mod Names
 pub mod Neighbours
 pub mod Phase
@@ -8,4 +9,3 @@ pub mod Pulls
 pub mod Siblings
 pub mod Steps
 pub mod Uses
-pub mod Lone

@@ -1,50 +1,51 @@
 -- The squares that others may make of names without the cell.
-use Rattle.std.specs.Prelude.{◌≡◌, ◌↔◌, ℕ, ◌+◌, ◌≤◌, true, List, [], length, Option, Some, get_or}
-use Rattle.std.specs.Prelude.{slice_get}
+use Rattle.std.specs.Prelude.{◌≡◌, ℕ, ◌+◌, ◌≤◌, ◌^◌, List, [], ◌∷◌, ◌++◌, Some, length}
+use Rattle.std.specs.Prelude.{map, get_or, slice_get}
+use Rattle.geo_base.specs.declared.layer.Op.TheVariants.{And}
 use Rattle.geo_base.specs.declared.shapes.Rect.{Rect}
-use Rattle.geo_base.specs.declared.shapes.Square.{Square}
-use Rattle.rect_sets.specs.Rects.{covers}
-use Rattle.flat_layout.specs.Gates.{Rule}
-use Rattle.flat_layout.specs.Layers.{Formula, Empty, IsLone, reach}
-use Rattle.cell_graph.specs.Linked.{Linked, cell_at, hull_of, plain}
-use Rattle.deep_tables.specs.Frames.{IsInGrown}
-use Rattle.rule_layers.specs.Formulas.{formula_by}
+use Rattle.flat_layout.specs.Layers.{Formula, Binary, Empty, reach}
+use Rattle.flat_layout.specs.Values.{IsLoneZone, IsZone}
+use Rattle.cell_graph.specs.Linked.{Linked, plain}
+use Rattle.rule_text.specs.Rules.{Rules}
 use Rattle.rule_text.specs.declared.rules.LayerForm.{LayerForm}
-use Rattle.rule_text.specs.declared.rules.LayerForm.TheVariants as form
-use Rattle.rule_text.specs.declared.rules.LayerRule.{LayerRule}
-use Rattle.zone_phase.specs.declared.lone.Found.{Found}
+use Rattle.rule_text.specs.declared.rules.MosRule.{MosRule}
+use Rattle.rule_text.specs.declared.rules.MoreRule.{MoreRule}
+use Rattle.rule_text.specs.declared.rules.MoreRule.TheVariants as more
+use Rattle.sized_layers.specs.Sizes.{IsSetWithin}
+use Rattle.zone_phase.specs.Names.{ForInput}
 
--- in the hull grown by n, what others may make of the name
-abbrev pub IsFramedLone : ℕ → Linked → Formula → ℕ → List Rect → Type 0
-IsFramedLone n d name cell v = (q : Square) → IsInGrown n (hull_of (cell_at d cell)) q
-    → (covers v q ≡ true) ↔ IsLone (plain d) cell name q
+-- over what lies over the cell in the hull grown by n the set is right as far round, less what the
+-- name reaches, and near
+pub record IsLoneIn (n : ℕ) (d : Linked) (cell : ℕ) (name : Formula) (set : List Rect) : Type 0
+    where
+  pub right : (m : ℕ) → m + reach name ≤ n → IsLoneZone (plain d) name m cell set
+  pub range : IsSetWithin (2 ^ 37 + reach name) set
 
--- the set of a name: of an input layer what lies over the cell
-abbrev pub lone_set : Option LayerRule → List Rect → List Rect → List Rect
-lone_set (Some rule) zone lone = of_form rule.form
-  where
-    of_form : LayerForm → List Rect
-    of_form (form.Input key) = zone
-    of_form f = lone
-lone_set none zone lone = lone
+-- the same of each name; past the end both are empty
+abbrev pub AreLones : ℕ → Linked → ℕ → List Formula → List (List Rect) → Type 0
+AreLones n d cell trees sets = (k : ℕ) → IsLoneIn n d cell (get_or trees k Empty) (get_or sets k [])
 
-abbrev pub LoneAt : Found → ℕ → List Rect
-LoneAt f name = lone_set (slice_get f.names.now name) (get_or f.zones.now name [])
-    (get_or f.lone.now name [])
+-- what lies over the cell on an input layer, near
+abbrev pub IsNearZone : ℕ → Linked → ℕ → LayerForm → List Rect → Type 0
+IsNearZone n d cell = ForInput (λ key v. IsZone (plain d) (key ∷ []) n cell v
+    × IsSetWithin (2 ^ 37) v)
 
--- the sets are right as far round the hull as the zones are, less what their names reach
-abbrev pub AreLones : ℕ → Linked → ℕ → List Formula → Found → Type 0
-AreLones n d cell trees f = (k m : ℕ) → m + reach (get_or trees k Empty) ≤ n
-    → IsFramedLone m d (get_or trees k Empty) cell (LoneAt f k)
+-- the layers of device rules' regions, over the trees of the names
+abbrev pub mos_region : List Formula → MosRule → Formula
+mos_region trees m = get_or trees m.g Empty
 
--- those of the regions' layers of device rules
-pub record AreDeviceLones (n : ℕ) (d : Linked) (cell : ℕ) (rules : List Rule)
+abbrev pub further_region : List Formula → MoreRule → Formula
+further_region trees (more.Resistor class n c w ta tw) = get_or trees n Empty
+further_region trees (more.Diode class p n ta tc) =
+    Binary And (get_or trees p Empty) (get_or trees n Empty)
+
+-- those of all device rules: of transistors, then of the others
+abbrev pub device_regions : List Formula → Rules → List Formula
+device_regions trees r = map (mos_region trees) r.devices ++ map (further_region trees) r.more
+
+-- for each of these layers the set is what others may make of it
+pub record AreRegionLones (n : ℕ) (d : Linked) (cell : ℕ) (regions : List Formula)
     (sets : List (List Rect)) : Type 0 where
-  pub count : length sets ≡ length rules
-  pub lone : (i m : ℕ) (u : Rule) (set : List Rect) → slice_get rules i ≡ Some u
-      → slice_get sets i ≡ Some set → m + reach u.gate ≤ n → IsFramedLone m d u.gate cell set
-
--- of an input layer there is nothing to make
-abbrev pub IsLoneForm : ℕ → Linked → ℕ → List Formula → LayerForm → List Rect → Type 0
-IsLoneForm n d cell trees (form.Input key) v = v ≡ []
-IsLoneForm n d cell trees f v = IsFramedLone n d (formula_by trees f) cell v
+  pub count : length sets ≡ length regions
+  pub lone : (k : ℕ) (x : Formula) (set : List Rect) → slice_get regions k ≡ Some x
+      → slice_get sets k ≡ Some set → IsLoneIn n d cell x set

@@ -17,31 +17,42 @@ use Rattle.deep_tables.specs.Frames.{IsFramedZone, IsFramedOpen}
 use Rattle.zone_phase.specs.declared.uses.Use.{Use}
 use Rattle.zone_phase.specs.Jobs.{HaveEntries}
 
--- what lies over the cell on a name's input layer, in the hull grown by n; nothing of other names
-abbrev pub IsFormZone : ℕ → Linked → ℕ → LayerForm → List Rect → Type 0
-IsFormZone n d cell (form.Input key) v = IsFramedZone n d (key ∷ []) cell v
-IsFormZone n d cell _ v = v ≡ []
+-- P holds of the set where the form is an input layer
+abbrev pub ForInput : (LayerKey → List Rect → Type 0) → LayerForm → List Rect → Type 0
+ForInput P (form.Input key) v = P key v
+ForInput P _ v = Unit {0}
 
--- the same of all names, by their trees
-pub record AreInputZones (n : ℕ) (d : Linked) (cell : ℕ) (trees : List Formula)
+-- each name has a set, and so of those that are input layers, by their trees
+pub record ForInputs (P : LayerKey → List Rect → Type 0) (trees : List Formula)
     (sets : List (List Rect)) : Type 0 where
   pub count : length sets ≡ length trees
-  pub zones : (k : ℕ) (key : LayerKey) → slice_get trees k ≡ Some (Input key)
-      → IsFramedZone n d (key ∷ []) cell (get_or sets k [])
+  pub each : (k : ℕ) (key : LayerKey) → slice_get trees k ≡ Some (Input key)
+      → P key (get_or sets k [])
+
+-- what lies over the cell on an input layer, in the hull grown by n
+abbrev pub IsFormZone : ℕ → Linked → ℕ → LayerForm → List Rect → Type 0
+IsFormZone n d cell = ForInput (λ key. IsFramedZone n d (key ∷ []) cell)
+
+abbrev pub AreInputZones : ℕ → Linked → ℕ → List Formula → List (List Rect) → Type 0
+AreInputZones n d cell = ForInputs (λ key. IsFramedZone n d (key ∷ []) cell)
 
 -- what of it the cell leaves
 abbrev pub IsFormOpen : ℕ → Linked → ℕ → LayerForm → List Rect → Type 0
-IsFormOpen n d cell (form.Input key) v = IsFramedOpen n d (key ∷ []) cell v
-IsFormOpen n d cell _ v = v ≡ []
+IsFormOpen n d cell = ForInput (λ key. IsFramedOpen n d (key ∷ []) cell)
 
-pub record AreInputOpens (n : ℕ) (d : Linked) (cell : ℕ) (trees : List Formula)
-    (sets : List (List Rect)) : Type 0 where
-  pub count : length sets ≡ length trees
-  pub opens : (k : ℕ) (key : LayerKey) → slice_get trees k ≡ Some (Input key)
-      → IsFramedOpen n d (key ∷ []) cell (get_or sets k [])
+abbrev pub AreInputOpens : ℕ → Linked → ℕ → List Formula → List (List Rect) → Type 0
+AreInputOpens n d cell = ForInputs (λ key. IsFramedOpen n d (key ∷ []) cell)
 
--- each tree's set is what the cell leaves for what it reads, in the hull grown by n; past the end both
--- are empty
+-- the set of an input layer is the one that is given
+abbrev pub IsFormKept : LayerForm → List Rect → List Rect → Type 0
+IsFormKept f given = ForInput (λ key v. v ≡ given) f
+
+abbrev pub AreInputsKept : List Formula → List (List Rect) → List (List Rect) → Type 0
+AreInputsKept trees given sets = (k : ℕ) (key : LayerKey) → slice_get trees k ≡ Some (Input key)
+    → get_or sets k [] ≡ get_or given k []
+
+-- each tree's set is what the cell leaves for what it reads, in the hull grown by n; past the end
+-- both are empty
 abbrev pub AreNameOpens : ℕ → Linked → ℕ → List Formula → List (List Rect) → Type 0
 AreNameOpens n d cell trees sets = (k : ℕ)
     → IsFramedOpen n d (inputs (get_or trees k Empty)) cell (get_or sets k [])

@@ -1,7 +1,6 @@
 //! The squares of input layers that a cell leaves which keeps what it covers itself.
-ghost use Rattle.std.specs.Prelude.{◌≡◌, ◌<◌, ◌^◌, length, IfOk};
-ghost use Rattle.std.specs.List.{All};
-ghost use Rattle.cell_graph.specs.Linked.{IsRectWithin};
+ghost use Rattle.std.specs.Prelude.{◌≡◌, ◌∷◌, [], IfOk};
+ghost use Rattle.deep_tables.specs.Frames.{IsFramedOpen, IsFramedZone};
 ghost use Rattle.flat_layout.specs.declared.way.Way.TheVariants.{Covered};
 ghost use Rattle.rect_sets.specs.Rects.{IsCanonical};
 ghost use Rattle.rule_layers.specs.Formulas.{formulas};
@@ -11,12 +10,34 @@ ghost use Rattle.zone_phase.specs.Uses.{IsUsed};
 use crate::names::push_set;
 use crate::uses::UsedCell;
 use cell_context::collect_in;
-use geo_base::Op;
+use geo_base::{LayerKey, Op};
 use rect_sets::RectSet;
 use rule_text::{LayerForm, LayerRule};
 use std::alloc::{AllocError, Global};
 
 // What lies over a cell from elsewhere on an input layer, without the cell's own flat squares there.
+fn key_bare(
+    alloc: Global,
+    used: &UsedCell<'_>,
+    key: LayerKey,
+    zone: &RectSet,
+) -> Result<RectSet, AllocError>
+    requires used { IsUsed used.now }
+    requires covered { used.now.design.now.way ≡ Covered }
+    requires zone { IsFramedZone used.now.margin used.now.design.now (key ∷ []) used.now.cell
+        zone.now }
+    ensures { IfOk result (λ r. IsCanonical r → IsFramedOpen used.now.margin
+        used.now.design.now (key ∷ []) used.now.cell r) }
+{
+    used.design.sound();
+    if zone.rects().is_empty() {
+        return Ok(RectSet::empty(alloc));
+    }
+    let flat = collect_in(alloc, used.design, used.cell, key, zone)?;
+    let bare = zone.combined(alloc, &flat, Op::Not)?;
+    Ok(bare)
+}
+
 fn form_bare(
     alloc: Global,
     used: &UsedCell<'_>,
@@ -25,18 +46,14 @@ fn form_bare(
 ) -> Result<RectSet, AllocError>
     requires used { IsUsed used.now }
     requires covered { used.now.design.now.way ≡ Covered }
-    requires near { All (IsRectWithin (2 ^ 39)) zone.now }
     requires zone { IsFormZone used.now.margin used.now.design.now used.now.cell form zone.now }
-    ensures { IfOk result (IsFormOpen used.now.margin used.now.design.now used.now.cell form) }
+    ensures { IfOk result (λ r. IsCanonical r → IsFormOpen used.now.margin
+        used.now.design.now used.now.cell form r) }
 {
-    let LayerForm::Input(key) = form else {
-        return Ok(RectSet::empty(alloc));
-    };
-    if zone.rects().is_empty() {
-        return Ok(RectSet::empty(alloc));
+    match form {
+        LayerForm::Input(key) => key_bare(alloc, used, key, zone),
+        _ => Ok(RectSet::empty(alloc)),
     }
-    let flat = collect_in(alloc, used.design, used.cell, key, zone)?;
-    zone.combined(alloc, &flat, Op::Not)
 }
 
 /// The squares that a cell leaves for each name that is an input layer, where it keeps what it covers
@@ -54,11 +71,10 @@ pub fn bare_inputs(
         (formulas names.now) zones.now }
     ensures opens { IfOk result (λ v. AreInputOpens used.now.margin used.now.design.now
         used.now.cell (formulas names.now) v.items) }
-    ensures canonical { IfOk result (λ v. All IsCanonical v.items) }
 {
     let mut sets = Vec::new(alloc);
-    for (rule, zone) in names.iter().zip(zones) {
-        let set = form_bare(alloc, used, rule.form, zone)?;
+    for (name, rule) in names.iter().enumerate() {
+        let set = form_bare(alloc, used, rule.form, &zones[name])?;
         push_set(&mut sets, set)?;
     }
     Ok(sets)

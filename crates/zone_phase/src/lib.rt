@@ -8,6 +8,7 @@ mod beside;
 mod devices;
 mod frame;
 mod laws;
+mod left;
 mod lone;
 mod names;
 mod neighbours;

@@ -8,19 +8,20 @@ ghost use Rattle.flat_layout.specs.Layers.{Formula, Empty, inputs};
 ghost use Rattle.rect_sets.specs.Rects.{IsCanonical};
 ghost use Rattle.rule_layers.specs.Formulas.{formula_by, formulas};
 ghost use Rattle.zone_phase.specs.Jobs.{MayRead};
-ghost use Rattle.zone_phase.specs.Names.{AreInputOpens, AreInputZones, AreNameOpens, HaveForm};
-ghost use Rattle.zone_phase.specs.Names.{HaveInputs, IsFormOpen, IsFormZone};
+ghost use Rattle.zone_phase.specs.Names.{AreInputOpens, AreInputsKept, AreInputZones};
+ghost use Rattle.zone_phase.specs.Names.{AreNameOpens, HaveForm, HaveInputs};
+ghost use Rattle.zone_phase.specs.Names.{IsFormKept, IsFormOpen, IsFormZone};
 ghost use Rattle.zone_phase.specs.Neighbours.{AreNear};
 ghost use Rattle.zone_phase.specs.Uses.{IsUsed};
 
 use crate::neighbours::{Neighbour, neighbours_of};
-use crate::unions::{set_at, with_name};
+use crate::unions::{copy_at, set_at, with_name};
 use crate::uses::UsedCell;
 use crate::zones::key_zone;
 use deep_tables::CellZones;
 use job_graph::Reads;
 use rect_sets::RectSet;
-use rule_text::{LayerForm, LayerRule, MosRule};
+use rule_text::{LayerForm, LayerRule};
 use std::alloc::{AllocError, Global};
 
 // The union for two names.
@@ -32,17 +33,6 @@ fn two_zones(alloc: Global, sets: &[RectSet], a: u32, b: u32) -> Result<RectSet,
 {
     let none = RectSet::empty(alloc);
     let set = with_name(alloc, sets, a, set_at(sets, b, &none))?;
-    Ok(set)
-}
-
-// Those for one name.
-fn one_zone(alloc: Global, sets: &[RectSet], a: u32) -> Result<RectSet, AllocError>
-    ensures { IfOk result (λ r. (n : ℕ) (d : Linked) (cell : ℕ)
-        (trees : List Formula) → AreNameOpens n d cell trees sets.now
-        → IsFramedOpen n d (inputs (get_or trees a Empty)) cell r) }
-{
-    let none = RectSet::empty(alloc);
-    let set = set_at(sets, a, &none).try_clone(alloc)?;
     Ok(set)
 }
 
@@ -115,16 +105,17 @@ fn form_open(
     input: RectSet,
     before: &[RectSet],
 ) -> Result<RectSet, AllocError>
-    ensures { IfOk result (λ r. (n : ℕ) (d : Linked) (cell : ℕ) (trees : List Formula)
+    ensures opens { IfOk result (λ r. (n : ℕ) (d : Linked) (cell : ℕ) (trees : List Formula)
         → AreNameOpens n d cell trees before.now → IsFormOpen n d cell form input
         → IsFramedOpen n d (inputs (formula_by trees form)) cell r) }
+    ensures kept { IfOk result (IsFormKept form input) }
 {
     match form {
         LayerForm::Input(_) => Ok(input),
-        LayerForm::Labels(_) => Ok(input),
-        LayerForm::Empty => Ok(input),
+        LayerForm::Labels(_) => Ok(RectSet::empty(alloc)),
+        LayerForm::Empty => Ok(RectSet::empty(alloc)),
         LayerForm::Binary(_, a, b) => two_zones(alloc, before, a, b),
-        LayerForm::Sized(a, _) => one_zone(alloc, before, a),
+        LayerForm::Sized(a, _) => copy_at(alloc, before, a),
     }
 }
 
@@ -135,16 +126,18 @@ pub fn name_opens(
     names: &[LayerRule],
     inputs: Vec<RectSet>,
 ) -> Result<Vec<RectSet>, AllocError>
-    requires { All IsCanonical inputs.items }
+    requires { length inputs.items ≡ length (formulas names.now) }
     ensures count { IfOk result (λ v. length v.items ≡ length (formulas names.now)) }
-    ensures zones { IfOk result (λ v. (n : ℕ) (d : Linked) (cell : ℕ)
+    ensures opens { IfOk result (λ v. (n : ℕ) (d : Linked) (cell : ℕ)
         → AreInputOpens n d cell (formulas names.now) inputs.items
         → AreNameOpens n d cell (formulas names.now) v.items) }
+    ensures kept { IfOk result (λ v. AreInputsKept (formulas names.now) inputs.items v.items) }
     ensures canonical { IfOk result (λ v. All IsCanonical v.items) }
 {
     let mut sets = Vec::new(alloc);
-    for (rule, input) in names.iter().zip(inputs) {
-        let set = form_open(alloc, rule.form, input, &sets)?;
+    for input in inputs {
+        let form = names[sets.len()].form;
+        let set = form_open(alloc, form, input, &sets)?;
         push_set(&mut sets, set)?;
     }
     Ok(sets)

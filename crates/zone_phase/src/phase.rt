@@ -1,28 +1,17 @@
 //! The phase of the squares that cells leave.
-ghost use Rattle.std.specs.Prelude.{◌≡◌, ℕ, IfOk};
-ghost use Rattle.std.specs.List.{All};
-ghost use Rattle.cell_graph.specs.Linked.{Linked};
-ghost use Rattle.flat_layout.specs.declared.way.Way.TheVariants.{Covered};
-ghost use Rattle.rect_sets.specs.Rects.{IsCanonical};
-ghost use Rattle.rule_layers.specs.Formulas.{formulas};
+ghost use Rattle.std.specs.Prelude.{◌≡◌, IfOk};
 ghost use Rattle.rule_text.specs.Seen.{rules_seen};
 ghost use Rattle.rule_text.specs.Sound.{IsSound};
 ghost use Rattle.zone_phase.specs.Graph.{AreParentJobs};
-ghost use Rattle.zone_phase.specs.Names.{AreInputOpens, AreInputZones};
-ghost use Rattle.zone_phase.specs.Phase.{AreCoveredOf, AreOpensOf};
-ghost use Rattle.zone_phase.specs.Uses.{IsUsed};
 
-use crate::bare::bare_inputs;
-use crate::devices::device_zones;
-use crate::lone::device_lones;
-use crate::names::{input_zones, name_opens};
+use crate::left::{covered_zones, left_zones};
+use crate::names::input_zones;
 use crate::parents::parent_graph;
 use crate::uses::{Use, UsedCell, find_uses};
 use cell_graph::Design;
-use deep_tables::{CellZones, CoveredZones, DeepKey, indexed_sets};
+use deep_tables::{CellZones, DeepKey};
 use flat_layout::Way;
 use job_graph::{Graph, Phase, Reads};
-use rect_sets::RectSet;
 use rule_layers::{read_names, zone_margin};
 use rule_text::{LayerRule, RuleSet};
 use std::alloc::{AllocError, Global};
@@ -120,47 +109,8 @@ impl Phase for ZonePhase<'_> {
         };
         let zones = input_zones(alloc, &used, reads, &self.read)?;
         match design.way() {
-            Way::Disturbed => self.zones(alloc, zones, None),
-            Way::Covered => self.covered(alloc, &used, zones),
+            Way::Disturbed => left_zones(alloc, self.rules, &self.read, zones, None),
+            Way::Covered => covered_zones(alloc, &used, self.rules, &self.read, zones),
         }
-    }
-}
-
-impl ZonePhase<'_> {
-    // A cell's zones, from the squares of input layers that it leaves.
-    fn zones(
-        &self,
-        alloc: Global,
-        inputs: Vec<RectSet>,
-        covered: Option<CoveredZones>,
-    ) -> Result<CellZones, AllocError>
-        requires { All IsCanonical inputs.items }
-        ensures { IfOk result (λ z. (d : Linked) (cell : ℕ)
-            → AreInputOpens self.now.margin d cell (formulas self.now.read.items) inputs.items
-            → AreOpensOf self.now d cell z × (z.covered ≡ covered)) }
-    {
-        let layers = name_opens(alloc, &self.read, inputs)?;
-        let devices = device_zones(alloc, &layers, self.rules)?;
-        CellZones::new(alloc, layers, devices, covered)
-    }
-
-    // The same where the cell keeps what it covers itself.
-    fn covered(
-        &self,
-        alloc: Global,
-        used: &UsedCell<'_>,
-        zones: Vec<RectSet>,
-    ) -> Result<CellZones, AllocError>
-        requires used { IsUsed used.now }
-        requires covered { used.now.design.now.way ≡ Covered }
-        requires zones { AreInputZones used.now.margin used.now.design.now used.now.cell
-            (formulas self.now.read.items) zones.items }
-        ensures { IfOk result (AreCoveredOf self.now used.now.design.now used.now.cell
-            zones.items) }
-    {
-        let bare = bare_inputs(alloc, used, &self.read, &zones)?;
-        let lone = device_lones(alloc, self.rules, &self.read, &zones)?;
-        let inputs = indexed_sets(alloc, zones)?;
-        self.zones(alloc, bare, Some(CoveredZones { inputs, lone }))
     }
 }

@@ -29,6 +29,15 @@ pub fn set_at<'a>(sets: &'a [RectSet], name: u32, none: &'a RectSet) -> &'a Rect
     sets.get(name as usize).unwrap_or(none)
 }
 
+/// The set of a name once more. Linear.
+pub fn copy_at(alloc: Global, sets: &[RectSet], name: u32) -> Result<RectSet, AllocError>
+    ensures { IfOk result (λ r. r ≡ get_or sets.now name []) }
+{
+    let none = RectSet::empty(alloc);
+    let set = set_at(sets, name, &none).try_clone(alloc)?;
+    Ok(set)
+}
+
 /// The union of what is left for a name and of others.
 pub fn with_name(
     alloc: Global,

@@ -1,4 +1,4 @@
-use Rattle.std.proofs.Common.{rules, ◌≡◌, ◌∙◌, ◌<◌, List, Some, true, false, ap, arith, get_or, length, refl, slice_get, subst, sym}
+use Rattle.std.proofs.Common.{rules, ◌≡◌, ◌∙◌, ◌<◌, List, Some, ap, arith, get_or, length, refl, slice_get, subst, sym}
 use Rattle.base_laws.proofs.Tests.{not_both}
 use Rattle.std.proofs.lemmas.Option.{slice_get_read}
 use Rattle.rule_text.specs.declared.rules.LayerRule.{LayerRule}

@@ -9,7 +9,7 @@ use Rattle.deep_tables.specs.Entries.{downward_cell}
 use Rattle.zone_phase.specs.Jobs.{HasName, zone_in}
 use Rattle.zone_phase.specs.Neighbours.{WhyHere}
 use Rattle.zone_phase.specs.Pulls.{Adds}
-use Rattle.zone_phase.proofs.Entries.{some_and, at_any}
+use Rattle.zone_phase.proofs.Entries.{some_and}
 use Rattle.zone_phase.proofs.Results.{on_ok}
 use Rattle.zone_phase.proofs.Using.{use_adds}
 use Rattle.zone_phase.proofs.zones.push_use.Goals as goal
@@ -32,20 +32,22 @@ push_reference-requires-clause-reference g c =
       here = subst (λ (p : Place). p.cell ≡ cell) same c.requires.found.here;
     }
 
+pub disturbed-zone-requires : goal.disturbed-zone-requires
+disturbed-zone-requires g c = some_and (HasName c.args.name) _ _ c.get.ensures c.requires.entry
+
 pub returns-clause-exact : goal.returns-clause-exact
 returns-clause-exact g c =
     let d = c.args.frame.now.design.now in let u = c.args.found.now in
-    let h = some_and (HasName c.args.name) _ _ c.get.ensures c.requires.entry in
     let listed : c.places.result.now ≡ places_at (cell_at d (downward_cell d u.job)) = c.places.ensures ∙ ap (λ (o : List ℕ). places_at (cell_at d (slice_index o (length o - 1 - u.job)))) c.order-order.ensures in
     let within = slice_get_within c.places.result.now u.index c.requires.found.place (subst (λ (l : List Place). slice_get l u.index ≡ Some c.requires.found.place) (sym listed) c.requires.found.there) in
     let there = item_at c.places.result.now (places_at (cell_at d (downward_cell d u.job))) u.index no_place listed within in
     let place = slice_index_or c.places.result.now u.index no_place in
     let same = one_place (slice_get (places_at (cell_at d (downward_cell d u.job))) u.index) c.requires.found.place place c.requires.found.there there in
-    let zone : c.index-zone.result.now ≡ zone_in (g.R.Reads.value c.args.reads.now u.job) c.args.name =
-    (c.index-zone.ensures ∙ at_any c.get.result.now.layers.items c.args.name c.index-zone.result.now [] h) ∙ ap (λ o. zone_in o c.args.name) (sym c.get.ensures) in
+    let zone : c.disturbed-zone.result.now ≡ zone_in (g.R.Reads.value c.args.reads.now u.job) c.args.name =
+    c.disturbed-zone.ensures ∙ ap (λ o. zone_in o c.args.name) (sym c.get.ensures) in
     on_ok _ _ c.push_reference.result
     (λ adds. use_adds d (zone_in (g.R.Reads.value c.args.reads.now u.job) c.args.name) c.args.frame.now.cell c.args.frame.now.key c.args.frame.now.grown u place c.args.out.now.items c.push_reference.new.out.items there
     (subst (λ (p : Place). p.cell ≡ c.args.frame.now.cell) same c.requires.found.here)
     (subst (λ (l : List Rect). Adds place c.args.frame.now.grown (WhyHere l d (downward_cell d u.job) u.index c.args.frame.now.key place) c.args.out.now.items c.push_reference.new.out.items) zone
-    (subst (λ (o : List ℕ). Adds place c.args.frame.now.grown (WhyHere c.index-zone.result.now d (slice_index o (length o - 1 - u.job)) u.index c.args.frame.now.key place) c.args.out.now.items c.push_reference.new.out.items) c.order-order.ensures adds)))
+    (subst (λ (o : List ℕ). Adds place c.args.frame.now.grown (WhyHere c.disturbed-zone.result.now d (slice_index o (length o - 1 - u.job)) u.index c.args.frame.now.key place) c.args.out.now.items c.push_reference.new.out.items) c.order-order.ensures adds)))
     c.push_reference.ensures.exact

@@ -2,15 +2,17 @@ use Rattle.std.proofs.Common.{◌≡◌, ◌∙◌, ◌+◌, ◌++◌, ◌∷◌
 use Rattle.std.specs.List.{All}
 use Rattle.std.proofs.lemmas.List.{at_drop_all}
 use Rattle.std.proofs.lemmas.List.Elements.{All-nil}
+use Rattle.geo_base.specs.declared.layer.LayerKey.{LayerKey}
 use Rattle.geo_base.specs.declared.shapes.Rect.{Rect}
 use Rattle.rect_sets.specs.Rects.{IsCanonical}
 use Rattle.flat_layout.specs.Layers.{Formula}
 use Rattle.rule_layers.specs.Formulas.{formulas, formula_by, formulas_behind}
-use Rattle.zone_phase.specs.Names.{AreNameZones}
+use Rattle.deep_tables.specs.Frames.{IsFramedZone}
+use Rattle.zone_phase.specs.Names.{AreInputZones}
 use Rattle.zone_phase.specs.Neighbours.{AreNear}
 use Rattle.zone_phase.specs.declared.neighbours.Neighbour.{Neighbour}
-use Rattle.zone_phase.proofs.Naming.{behind_stays, form_entries, names_more, no_names, one_on}
-use Rattle.zone_phase.proofs.names.name_zones.Goals as goal
+use Rattle.zone_phase.proofs.Naming.{behind_stays, form_entries, inputs_more, no_inputs, one_on}
+use Rattle.zone_phase.proofs.names.input_zones.Goals as goal
 
 pub form_zone-requires-clause-entries : goal.form_zone-requires-clause-entries
 form_zone-requires-clause-entries g c =
@@ -22,25 +24,23 @@ form_zone-requires-clause-entries g c =
 pub loop-name-preserved : goal.loop-name-preserved
 loop-name-preserved g c =
     let had = c.loop-name.invariant in let names = c.args.names.now in let rule = c.index-names-name.result in let name = c.loop-name.name in
-    let d = c.args.used.now.design.now in let tree = formula_by had.0 rule.form in let sets = c.loop-name.sets.items in let set = c.in_ok-set.set in
-    let e = c.in_ok-push_set.ensures.list in (
+    let n = c.args.used.now.margin in let d = c.args.used.now.design.now in let cell = c.args.used.now.cell in
+    let tree = formula_by had.0 rule.form in let sets = c.loop-name.sets.items in let set = c.in_ok-set.set in (
       had.0 ++ tree ∷ [],
       one_on had.0 names name rule c.loop-name-test.true (sym c.index-names-name.is) ∙ had.1,
-      length-append had.0 (tree ∷ []) ∙ ap (λ (n : ℕ). n + 1) had.2,
-      ap length e ∙ length-append sets (set ∷ []) ∙ ap (λ (n : ℕ). n + 1) had.3,
-      subst (AreNameZones c.args.used.now.margin d c.args.used.now.cell (had.0 ++ tree ∷ [])) (sym e) (names_more c.args.used.now.margin d c.args.used.now.cell had.0 tree sets set (had.3 ∙ sym had.2) had.4
-          (c.in_ok-set.ensures had.0 (subst (AreNameZones c.args.used.now.margin d c.args.used.now.cell had.0) (sym c.deref.ensures.value) had.4))),
+      length-append had.0 (tree ∷ []) ∙ ap (λ (k : ℕ). k + 1) had.2,
+      subst (AreInputZones n d cell (had.0 ++ tree ∷ [])) (sym c.in_ok-push_set.ensures.list)
+          (inputs_more (λ key. IsFramedZone n d (key ∷ []) cell) had.0 rule.form sets set had.3 c.in_ok-set.ensures),
       c.in_ok-push_set.ensures.canonical,
     )
 
 pub loop-name-init : goal.loop-name-init
 loop-name-init g c =
-    let d = c.args.used.now.design.now in let e = c.new-sets.ensures.items in (
+    let n = c.args.used.now.margin in let d = c.args.used.now.design.now in let cell = c.args.used.now.cell in let e = c.new-sets.ensures.items in (
       [],
       refl,
       refl,
-      ap length e,
-      subst (λ (l : List (List Rect)). AreNameZones c.args.used.now.margin d c.args.used.now.cell [] l) (sym e) (no_names c.args.used.now.margin d c.args.used.now.cell),
+      subst (λ (l : List (List Rect)). AreInputZones n d cell [] l) (sym e) (no_inputs (λ (key : LayerKey). IsFramedZone n d (key ∷ []) cell)),
       subst (λ (l : List (List Rect)). All IsCanonical l) (sym e) (All-nil IsCanonical),
     )
 
@@ -52,4 +52,4 @@ pub returns-clause-zones : goal.returns-clause-zones
 returns-clause-zones g c =
     let had = c.loop-name.invariant in let names = c.args.names.now in
     let all : had.0 ≡ formulas names = sym (at_drop_all (formulas_behind had.0) names c.loop-name.name (let past = c.loop-name-test.false in omega arith)) ∙ had.1 in
-    subst (λ (trees : List Formula). AreNameZones c.args.used.now.margin c.args.used.now.design.now c.args.used.now.cell trees c.loop-name.sets.items) all had.4
+    subst (λ (trees : List Formula). AreInputZones c.args.used.now.margin c.args.used.now.design.now c.args.used.now.cell trees c.loop-name.sets.items) all had.3

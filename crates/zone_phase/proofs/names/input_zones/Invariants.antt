@@ -1,0 +1,12 @@
+use Rattle.std.proofs.Common.{◌≡◌, List, drop, length}
+use Rattle.std.specs.List.{All}
+use Rattle.rect_sets.specs.Rects.{IsCanonical}
+use Rattle.flat_layout.specs.Layers.{Formula}
+use Rattle.rule_layers.specs.Formulas.{formulas, formulas_behind}
+use Rattle.zone_phase.specs.Names.{AreInputZones}
+use Rattle.zone_phase.proofs.names.input_zones.Given as goal
+
+abbrev pub invariant-loop-name : goal.invariant-loop-name
+invariant-loop-name g l =
+    (trees : List Formula) × (formulas_behind trees (drop l.name l.names) ≡ formulas l.names) × (length trees ≡ l.name)
+    × AreInputZones l.used.margin l.used.design.now l.used.cell trees l.sets.items × All IsCanonical l.sets.items
