@@ -1,5 +1,5 @@
 -- Which parts are settled gates, and which of these come from below.
-use Rattle.std.proofs.Common.{◌≡◌, ◌⊎◌, ◌↔◌, inl, inr, ℕ, ◌+◌, arith, true, List, Option, Some, None, slice_get, refl, sym, ◌∙◌, subst}
+use Rattle.std.proofs.Common.{◌≡◌, ◌↔◌, inl, inr, ℕ, ◌+◌, arith, true, List, Option, Some, None, slice_get, refl, sym, ◌∙◌, subst}
 use Rattle.std.proofs.lemmas.Bool.{cases_Bool}
 use Rattle.base_laws.proofs.Items.{one_entry}
 use Rattle.geo_base.specs.Motions.{moved_square}
