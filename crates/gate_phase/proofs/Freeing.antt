@@ -21,7 +21,8 @@ use Rattle.cell_context.proofs.Visiting.{inside_from, within_inside, wider_rect}
 use Rattle.deep_tables.specs.declared.zones.CellZones.{CellZones}
 use Rattle.gate_shapes.specs.Sets.{in_set}
 use Rattle.gate_phase.specs.Below.{IsFree, IsFreeElement, IsFreeIn}
-use Rattle.gate_phase.specs.Close.{AreApart, AreOpen, HasOpen, HasOpenBelow}
+use Rattle.deep_tables.specs.Zones.{lone_of}
+use Rattle.gate_phase.specs.Close.{AreApart, AreOpen, HasOpen, HasOpenBelow, IsMine}
 use Rattle.gate_phase.proofs.Keeping.{in_one, listed_has, low_in, low_square, one_window}
 
 not_true : (b : Bool) → not b ≡ true → b ≡ true → ⊥
@@ -58,23 +59,39 @@ module _ (n : ℕ) (close there outside zone : List Rect) (m : Motion) (frame : 
   )
 
 -- and so in a cell with this hull and this zone
-pub free_in : (n : ℕ) (d : Linked) (z : List (Option CellZones)) (device : ℕ) (close : List Rect) (cell : ℕ) (m : Motion) (hull frame : Rect) (zone : List Rect) (b : Bool) → hull_of (cell_at d cell) ≡ Some hull → frame ≡ grown (n + 1) hull → AreOpen z cell device zone
-    → (b ≡ true) ↔ IsFree n close m frame zone → (b ≡ true) ↔ IsFreeIn n d z device close cell m
-free_in n d z device close cell m hull frame zone b hull_is frame_is zone_is told = (
-  (λ e. record { hull = hull; hull_is = hull_is; zone = zone; zone_is = zone_is; free = subst (λ (f : Rect). IsFree n close m f zone) frame_is (told.0 e) }),
-  (λ h.
+module _ (n : ℕ) (d : Linked) (z : List (Option CellZones)) (device : ℕ) (part close : List Rect) (cell : ℕ) (m : Motion) (hull frame : Rect) (zone : List Rect) (hull_is : hull_of (cell_at d cell) ≡ Some hull) (frame_is : frame ≡ grown (n + 1) hull) (zone_is : AreOpen z cell device zone) where
+  free_of : IsFreeIn n d z device part close cell m → IsFree n close m frame zone
+  free_of h =
       let one = one_entry _ h.hull hull h.hull_is hull_is in
       let same = one_entry _ h.zone zone h.zone_is zone_is in
-      told.1 (subst (λ (f : Rect). IsFree n close m f zone) (ap (λ (r : Rect). grown (n + 1) r) one ∙ sym frame_is) (subst (λ l. IsFree n close m (grown (n + 1) h.hull) l) same h.free))),
-)
+      subst (λ (f : Rect). IsFree n close m f zone) (ap (λ (r : Rect). grown (n + 1) r) one ∙ sym frame_is) (subst (λ l. IsFree n close m (grown (n + 1) h.hull) l) same h.free)
+
+  pub not_free_in : (b : Bool) → (b ≡ true) ↔ IsFree n close m frame zone → b ≡ false → (false ≡ true) ↔ IsFreeIn n d z device part close cell m
+  not_free_in b told off = ((λ e. absurd (let y : ⊥ = cc in y)), (λ h. sym off ∙ told.1 (free_of h)))
+
+  pub free_in : (there : List Rect) (others : Option (List Rect)) (b : Bool) → IsFree n close m frame zone → ((q : Square) → covers there q ≡ covers part (moved_square m q)) → others ≡ lone_of z cell device → (b ≡ true) ↔ IsMine others (in_set there)
+      → (b ≡ true) ↔ IsFreeIn n d z device part close cell m
+  free_in there others b free pulled others_is told = (
+    (λ e.
+        let s : IsMine (lone_of z cell device) (in_set there) = subst (λ o. IsMine o (in_set there)) others_is (told.0 e) in
+        record {
+          hull = hull;
+          hull_is = hull_is;
+          zone = zone;
+          zone_is = zone_is;
+          free = subst (λ (f : Rect). IsFree n close m f zone) frame_is free;
+          mine = record { square = s.square; has = sym (pulled s.square) ∙ s.has; alone = s.alone };
+        }),
+    (λ h. told.1 (subst (λ o. IsMine o (in_set there)) (sym others_is) (record { square = h.mine.square; has = pulled h.mine.square ∙ h.mine.has; alone = h.mine.alone }))),
+  )
 
 -- a visit's cell has its entry
 pub visit_open : (n : ℕ) (d : Linked) (z : List (Option CellZones)) (cell device : ℕ) (w : Rect) (v : Visit) → HasOpenBelow d z cell device → IsVisit n d cell None w v → HasOpen z v.cell device
 visit_open n d z cell device w v have h = subst (λ c. HasOpen z c device) (sym h.cell_is) (have h.index h.from h.step.there)
 
 -- a visit where all is free is such an element
-pub free_visit : (n : ℕ) (d : Linked) (z : List (Option CellZones)) (cell device : ℕ) (close : List Rect) (w : Rect) (v : Visit) → IsVisit n d cell None w v → IsFreeIn n d z device close v.cell v.motion → IsFreeElement n d z cell device close w
-free_visit n d z cell device close w v h free =
+pub free_visit : (n : ℕ) (d : Linked) (z : List (Option CellZones)) (cell device : ℕ) (part close : List Rect) (w : Rect) (v : Visit) → IsVisit n d cell None w v → IsFreeIn n d z device part close v.cell v.motion → IsFreeElement n d z cell device part close w
+free_visit n d z cell device part close w v h free =
     let s = low_square v.window in
     let inside = low_in v.window h.near.some in
     record {
@@ -86,12 +103,12 @@ free_visit n d z cell device close w v h free =
       square = s;
       held = subst (λ c. IsInGrown n (hull_of (cell_at d c)) s) h.cell_is (h.held s inside);
       met = subst (λ (m : Motion). has w (moved_square m s) ≡ true) h.motion_is (h.has s inside);
-      free = subst (λ (m : Motion). IsFreeIn n d z device close h.from.cell m) h.motion_is (subst (λ c. IsFreeIn n d z device close c v.motion) h.cell_is free);
+      free = subst (λ (m : Motion). IsFreeIn n d z device part close h.from.cell m) h.motion_is (subst (λ c. IsFreeIn n d z device part close c v.motion) h.cell_is free);
     }
 
 -- and where no visit is, no element is
-pub no_visit_free : (n : ℕ) (d : Linked) (z : List (Option CellZones)) (cell device : ℕ) (close : List Rect) (w : Rect) (vs : List Visit) (none : Visit) → AreVisited n d cell None w vs
-    → ((k : ℕ) → k < length vs → IsFreeIn n d z device close (slice_index_or vs k none).cell (slice_index_or vs k none).motion → ⊥) → IsFreeElement n d z cell device close w → ⊥
-no_visit_free n d z cell device close w vs none found never f =
+pub no_visit_free : (n : ℕ) (d : Linked) (z : List (Option CellZones)) (cell device : ℕ) (part close : List Rect) (w : Rect) (vs : List Visit) (none : Visit) → AreVisited n d cell None w vs
+    → ((k : ℕ) → k < length vs → IsFreeIn n d z device part close (slice_index_or vs k none).cell (slice_index_or vs k none).motion → ⊥) → IsFreeElement n d z cell device part close w → ⊥
+no_visit_free n d z cell device part close w vs none found never f =
     let s = some_at (IsVisited f.from f.row f.column f.square) vs none (found f.index f.row f.column f.from f.square f.step (λ e. let g : None ≡ Some f.index = e in let z : ⊥ = cc in z) f.held f.met) in
-    never s.0 s.1 (subst (λ (m : Motion). IsFreeIn n d z device close (slice_index_or vs s.0 none).cell m) (sym s.2.motion) (subst (λ c. IsFreeIn n d z device close c (motion_at f.from f.row f.column)) (sym s.2.cell) f.free))
+    never s.0 s.1 (subst (λ (m : Motion). IsFreeIn n d z device part close (slice_index_or vs s.0 none).cell m) (sym s.2.motion) (subst (λ c. IsFreeIn n d z device part close c (motion_at f.from f.row f.column)) (sym s.2.cell) f.free))

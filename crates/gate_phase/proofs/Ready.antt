@@ -1,4 +1,4 @@
--- What is known of disturbed squares at a ready device rule.
+-- What is known of the squares that cells leave at a ready device rule.
 use Rattle.std.proofs.Common.{◌≡◌}
 use Rattle.cell_graph.specs.Linked.{IsSound}
 use Rattle.gate_phase.specs.Close.{HasOpen, HasOpenBelow}

@@ -1,7 +1,7 @@
 -- Which parts are settled gates, and which of these come from below.
-use Rattle.std.proofs.Common.{◌≡◌, ◌⊎◌, ◌↔◌, inl, inr, ℕ, ◌+◌, arith, true, ap, List, Option, Some, None, slice_get, refl, sym, ◌∙◌, subst}
+use Rattle.std.proofs.Common.{◌≡◌, ◌⊎◌, ◌↔◌, inl, inr, ℕ, ◌+◌, arith, true, List, Option, Some, None, slice_get, refl, sym, ◌∙◌, subst}
 use Rattle.std.proofs.lemmas.Bool.{cases_Bool}
-use Rattle.std.specs.Prelude.{IsSome}
+use Rattle.base_laws.proofs.Items.{one_entry}
 use Rattle.geo_base.specs.Motions.{moved_square}
 use Rattle.geo_base.specs.Rects.{has}
 use Rattle.geo_base.specs.declared.shapes.Rect.{Rect}
@@ -11,8 +11,6 @@ use Rattle.flat_layout.specs.Gates.{Geometry, Rule, IsGateBelow, IsGateOrRing, I
 use Rattle.flat_layout.specs.Layers.{Formula, Input, Empty, Binary, Sized, InFlat, IsCalmAt, IsKept, IsLone}
 use Rattle.flat_layout.specs.Layout as flat
 use Rattle.flat_layout.specs.Layout.{IsReached}
-use Rattle.flat_layout.specs.declared.way.Way.{Way}
-use Rattle.flat_layout.specs.declared.way.Way.TheVariants.{Disturbed, Covered}
 use Rattle.rect_sets.specs.Rects.{covers}
 use Rattle.flat_layout.specs.Parts.{IsCloseTo}
 use Rattle.flat_layout.specs.Plane.{AreWithin, IsReachedBy}
@@ -33,18 +31,14 @@ use Rattle.rule_layers.proofs.Reaching.{gate_reaches}
 use Rattle.rule_layers.specs.Meaning.{device_rules, wiring_of}
 use Rattle.deep_tables.specs.declared.zones.CellZones.{CellZones}
 use Rattle.deep_tables.specs.Frames.{IsInGrown}
-use Rattle.deep_tables.specs.Entries.{entry}
-use Rattle.deep_tables.specs.Zones.{AreCellZones, AreZones, lone_by, lone_entry, lone_in, lone_of}
-use Rattle.deep_tables.specs.declared.zones.CoveredZones.{CoveredZones}
-use Rattle.deep_tables.proofs.Framing.{in_hull}
-use Rattle.deep_tables.proofs.Reading.{some_and}
+use Rattle.deep_tables.specs.Zones.{AreZones, lone_of}
 use Rattle.gate_shapes.specs.Sets.{in_set}
 use Rattle.gate_shapes.proofs.PartsOf.{end_in}
 use Rattle.gate_search.specs.SearchLaws.{IsSearch, IsTold}
 use Rattle.gate_phase.specs.Below.{IsFreeElement}
 use Rattle.gate_phase.specs.Close.{AreOpen}
 use Rattle.gate_phase.specs.Own.{IsKeptPart}
-use Rattle.gate_phase.proofs.Seeding.{IsOpenZone, flat_grown, open_at, reach_grown, reached_step}
+use Rattle.gate_phase.proofs.Seeding.{IsOpenZone, flat_grown, lone_at, lone_way, open_at, reach_grown, reached_step, way_is}
 
 pub kept_flat : (d : flat.Design) (cell : ℕ) (x : Formula) (q : Square) → IsKept d cell x q → InFlat d cell x q
 kept_flat d cell (Input key) q h = h
@@ -66,16 +60,6 @@ one_zone z cell device v w h g = let e : Some v ≡ Some w = sym h ∙ g in cc
 hull_some : (n : ℕ) (o : Option Rect) (q : Square) → IsInGrown n o q → (h : Rect) × (o ≡ Some h)
 hull_some n None q h = absurd h
 hull_some n (Some r) q h = (r, refl)
-
--- each way is one of the two
-way_is : (v : Way) → (v ≡ Disturbed) ⊎ (v ≡ Covered)
-way_is Disturbed = inl refl
-way_is Covered = inr refl
-
--- where it is told what others may make, the cell keeps what it covers
-lone_some : (o : Option CoveredZones) (rule : ℕ) (set : List Rect) → lone_by o rule ≡ Some set → IsSome o
-lone_some None rule set e = absurd cc
-lone_some (Some c) rule set e = search
 
 module _ (d : Linked) (r : Rules) (z : List (Option CellZones)) (cell device : ℕ) (u : Rule) (sound : IsSound d) (right : AreZones (plain d) r z) (reached : IsReached (plain d) cell) (at : slice_get (device_rules r) device ≡ Some u) where
   abbrev g : Geometry
@@ -111,24 +95,17 @@ module _ (d : Linked) (r : Rules) (z : List (Option CellZones)) (cell device : �
   alone_there : (c : ℕ) → IsReached (plain d) c → (q : Square) → IsInGrown (N + 1) (hull_of (cell_at d c)) q → IsCalmAt (plain d) g.keys N c q
       → ((set : List Rect) → lone_of z c device ≡ Some set → covers set q ≡ true → ⊥) → IsLone (plain d) c g.region q → ⊥
   alone_there c there q inside calm told lone = elim (way_is (plain d).way) [
-    | inl e ↦ not_lone (plain d) e g g.region c q small calm lone
-    | inr e ↦
-        let v = some_and (AreCellZones (plain d) r c) (entry z c) (right c there) in
-        let l = v.2.lone device u at e in
-        let hull = (in_hull (plain d) (N + 1) c (hull_of (cell_at d c)) q (sound.hulls.each c)).1 inside in
-        told l.0 (ap (λ o. lone_entry o device) v.1 ∙ l.1) ((l.2.each q hull).1 lone)
+    | inl way ↦ not_lone (plain d) way g g.region c q small calm lone
+    | inr way ↦ (let l = lone_at d r z c device u sound right there at way in told l.set l.is ((l.each q inside).1 lone))
   ]
 
   -- and the table has none that they can't
   mine_there : (c : ℕ) → IsReached (plain d) c → (q : Square) → IsInGrown (N + 1) (hull_of (cell_at d c)) q → (IsLone (plain d) c g.region q → ⊥)
       → (set : List Rect) → lone_of z c device ≡ Some set → covers set q ≡ true → ⊥
   mine_there c there q inside alone set is on =
-      let v = some_and (AreCellZones (plain d) r c) (entry z c) (right c there) in
-      let told : lone_in v.0 device ≡ Some set = sym (ap (λ o. lone_entry o device) v.1) ∙ is in
-      let l = v.2.lone device u at (v.2.covered.0 (lone_some v.0.covered device set told)) in
-      let same : l.0 ≡ set = (let f : Some l.0 ≡ Some set = sym l.1 ∙ told in cc) in
-      let hull = (in_hull (plain d) (N + 1) c (hull_of (cell_at d c)) q (sound.hulls.each c)).1 inside in
-      alone ((l.2.each q hull).0 (subst (λ (s : List Rect). covers s q ≡ true) (sym same) on))
+      let l = lone_at d r z c device u sound right there at (lone_way d r z c device right there set is) in
+      let same : l.set ≡ set = one_entry _ l.set set l.is is in
+      alone ((l.each q inside).0 (subst (λ (s : List Rect). covers s q ≡ true) (sym same) on))
 
   in_reach : (c : ℕ) (q : Square) → IsInReach (plain d) g.keys (N + 1) c q → IsInGrown (N + 1) (hull_of (cell_at d c)) q
   in_reach c q h = reach_grown d g.keys (N + 1) c q sound h

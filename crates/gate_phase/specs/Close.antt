@@ -1,6 +1,5 @@
 -- What is close to a part, what the cell leaves of it, and what others may make without the cell.
-use Rattle.std.specs.Prelude.{◌≡◌, ℕ, true, false, ◌||◌, Bool, List, Option, Some, None}
-use Rattle.std.specs.Prelude.{slice_get}
+use Rattle.std.specs.Prelude.{◌≡◌, ℕ, true, List, Option, Some, slice_get}
 use Rattle.rect_sets.specs.Rects.{covers}
 use Rattle.geo_base.specs.declared.shapes.Rect.{Rect}
 use Rattle.geo_base.specs.declared.shapes.Square.{Square}
@@ -43,12 +42,3 @@ pub record IsMine (lone : Option (List Rect)) (part : Square → Type 0) : Type 
 -- and so by the table's entry of a cell for a device rule
 abbrev pub HasMine : List (Option CellZones) → ℕ → ℕ → (Square → Type 0) → Type 0
 HasMine z cell device part = IsMine (lone_of z cell device) part
-
--- what a cell leaves for a device rule, or others may make there without it
-abbrev pub any_covers : Option (List Rect) → Square → Bool
-any_covers None q = false
-any_covers (Some set) q = covers set q
-
-abbrev pub left_by : List (Option CellZones) → ℕ → ℕ → Square → Bool
-left_by z device cell q = any_covers (zone_of z cell (Device device)) q
-    || any_covers (lone_of z cell device) q

@@ -23,9 +23,9 @@ use rule_text::RuleSet;
 use std::alloc::{AllocError, Global};
 use std::marker::Model;
 
-/// What a cell keeps of both of two names: the squares that it keeps of each, less those that are
-/// disturbed for one of them. A name that is an input layer keeps disturbed squares too, and the
-/// squares in both don't.
+/// What a cell keeps of both of two names: the squares that it keeps of each, less those near which
+/// it leaves something for one of them. Of a name that is an input layer it keeps such squares too,
+/// and of the squares in both it doesn't.
 #[derive(Drop)]
 pub struct BothLayer<'a, 'l> {
     design: &'a Design,
@@ -47,7 +47,7 @@ impl<'a, 'l> Model for BothLayer<'a, 'l> {
     ghost invariant = { IsBothLayer };
 }
 
-// The squares of a set within so many of which nothing is disturbed, by windows of what is.
+// The squares of a set within so many of which nothing is left, by windows of what is.
 fn calm(alloc: Global, set: &RectSet, zone: &IndexedSet, reach: u32) -> Result<RectSet, AllocError>
     requires reach { reach ≤ 10000 }
     requires set { IsSetWithin (2 ^ 38) set.now }
@@ -64,8 +64,7 @@ fn calm(alloc: Global, set: &RectSet, zone: &IndexedSet, reach: u32) -> Result<R
     Ok(found)
 }
 
-/// The squares in both sets within so many of which nothing is disturbed in the cell for either
-/// name.
+/// The squares in both sets within so many of which the cell leaves nothing for either name.
 pub fn calm_in_both(
     alloc: Global,
     zones: &Zones,

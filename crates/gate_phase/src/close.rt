@@ -65,7 +65,7 @@ pub fn is_undisturbed(alloc: Global, at: &DeviceSite, close: &RectSet) -> Result
 /// told they can make none that the cell doesn't leave.
 pub fn is_mine(alloc: Global, part: &RectSet, lone: Option<&RectSet>) -> Result<bool, AllocError>
     ensures { IfOk result (λ b. (b ≡ true)
-        ↔ IsMine (option_map (λ s. s.now) lone) (in_set part.now)) }
+        ↔ IsMine (option_map (λ s. s.now) lone.entry) (in_set part.now)) }
 {
     match lone {
         Some(lone) => {

@@ -1,9 +1,10 @@
 //! The gates of transistors that each cell holds itself, and the regions of further devices.
 //!
-//! A region belongs to the lowest cell in which nothing disturbs it. In a cell, regions of its own
-//! can only lie around its own shapes and around what placed cells leave open; from there whole
-//! parts are gathered of what the cell keeps, and each is judged by what lies close to it. Placed
-//! cells are looked into by windows and never flattened.
+//! A region belongs to the lowest cell that leaves nothing near it, and of which others can't make
+//! all of it. In a cell, regions of its own can only lie around its own shapes, around what placed
+//! cells leave and around what others may make there; from there whole parts are gathered of what
+//! the cell keeps, and each is judged by what lies close to it. Placed cells are looked into by
+//! windows and never flattened.
 #![tactic(auto)]
 
 mod below;

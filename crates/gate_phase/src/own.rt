@@ -1,5 +1,5 @@
 //! The regions of a cell's own for a device rule.
-ghost use Rattle.std.specs.Prelude.{◌≡◌, ◌^◌, ◌++◌, true, IfOk, OnOk};
+ghost use Rattle.std.specs.Prelude.{◌≡◌, ◌↔◌, ◌^◌, ◌++◌, true, IfOk, OnOk};
 ghost use Rattle.std.specs.List.{All};
 ghost use Rattle.geo_base.specs.Rects.{has};
 ghost use Rattle.rect_sets.specs.Near.{IsNearSet};
@@ -7,8 +7,8 @@ ghost use Rattle.flat_layout.specs.Gates.{Rule};
 ghost use Rattle.flat_layout.specs.Parts.{IsLeast};
 ghost use Rattle.cell_graph.specs.Linked.{IsRectWithin};
 ghost use Rattle.gate_shapes.specs.Sets.{in_set};
-ghost use Rattle.gate_phase.specs.Own.{AddsPart, AreOwnGates, IsHeldPart, IsOwnOr, IsUnitNear};
-ghost use Rattle.gate_phase.specs.Own.{TellsOwn, gates_in, unit_window};
+ghost use Rattle.gate_phase.specs.Own.{AddsPart, AreOwnGates, IsHeldPart, IsKeptPart, IsOwnOr};
+ghost use Rattle.gate_phase.specs.Own.{IsUnitNear, TellsOwn, gates_in, unit_window};
 ghost use Rattle.gate_phase.specs.Site.{HasRule, IsReadyDevice, IsToldAt, layout_at, wiring_at};
 
 use crate::below::is_below;
@@ -44,6 +44,27 @@ pub fn unit(square: Square) -> Rect
     }
 }
 
+// Whether the cell leaves nothing within reach of what is close to a part, and others can't make all
+// of it.
+fn is_kept(
+    alloc: Global,
+    at: &DeviceSite,
+    part: &RectSet,
+    close: &RectSet,
+) -> Result<bool, AllocError>
+    requires ready { IsReadyDevice at.now }
+    requires windows { All (IsRectWithin (2 ^ 39)) close.now }
+    ensures { IfOk result (λ b. (b ≡ true) ↔ IsKeptPart at.now.reach at.now.site.zones.now
+        at.now.site.cell at.now.number part.now close.now) }
+{
+    at.site.design.sound();
+    if !is_undisturbed(alloc, at, close)? {
+        return Ok(false);
+    }
+    let lone = at.site.zones.lone(at.site.cell, at.number);
+    is_mine(alloc, part, lone)
+}
+
 // Whether a part is a settled gate that doesn't come from below.
 fn is_own(
     alloc: Global,
@@ -60,8 +81,7 @@ fn is_own(
     ensures { IfOk result (TellsOwn at.now.reach at.now.site.design.now at.now.site.zones.now
         at.now.site.cell at.now.number part.now close.now least) }
 {
-    let lone = at.site.zones.lone(at.site.cell, at.number);
-    if !is_undisturbed(alloc, at, close)? || !is_mine(alloc, part, lone)? {
+    if !is_kept(alloc, at, part, close)? {
         return Ok(false);
     }
     let start = unit(least);
@@ -130,7 +150,7 @@ fn push_part(
 
 /// The gates of a cell's own for a device rule, in order of their least squares, each with its
 /// shape. What placed cells hold themselves isn't looked at but where something of this cell, or
-/// something that disturbs a placed cell, lies beside it.
+/// something that a placed cell leaves, lies beside it.
 pub fn own_gates(alloc: Global, at: &DeviceSite) -> Result<Vec<OwnGate>, AllocError>
     requires ready { IsReadyDevice at.now }
     ensures { IfOk result (λ v. (u : Rule) → HasRule at.now u

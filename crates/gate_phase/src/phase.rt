@@ -18,8 +18,7 @@ use std::marker::Model;
 use std::thread::Threads;
 
 /// The gates of transistors of each cell that the top reaches. Its jobs go through the design's
-/// order. They read the disturbed squares, the layers and the nets of all cells, so none waits for
-/// another.
+/// order. They read the zones, the layers and the nets of all cells, so none waits for another.
 #[derive(Drop)]
 pub struct GatePhase<'a, R, G> {
     work: DeviceWork<'a>,
@@ -35,8 +34,8 @@ impl<'a, R, G> Model for GatePhase<'a, R, G> {
 }
 
 impl<'a, R, G> GatePhase<'a, R, G> {
-    /// The phase of what a layout's phases read, and of its disturbed squares, layers and nets, with
-    /// those who share the work of a large cell.
+    /// The phase of what a layout's phases read, and of its zones, layers and nets, with those who
+    /// share the work of a large cell.
     /// 2^32 names, device rules or globals, or more, are refused. It costs the indexes of the
     /// layers of device rules, and is linear in the names for each reached cell.
     pub fn new(

@@ -26,7 +26,7 @@ use gate_shapes::parts;
 use rect_sets::RectSet;
 use std::alloc::{AllocError, Global};
 
-// What a cell holds itself of both names, less what is disturbed.
+// What a cell holds itself of both names, less what is near squares that it leaves.
 fn local_in_both(
     alloc: Global,
     zones: &Zones,

@@ -1,11 +1,12 @@
 //! Where gates of a cell's own may begin: at its own shapes, and at what placed cells leave, or others
 //! may make there without them.
-ghost use Rattle.std.specs.Prelude.{◌≡◌, ◌<◌, ◌≤◌, ◌^◌, ℕ, true, length, slice_get, Some, IfOk};
-ghost use Rattle.std.specs.Prelude.{OnOk};
+ghost use Rattle.std.specs.Prelude.{◌≡◌, ◌<◌, ◌≤◌, ◌^◌, ℕ, true, List, length, slice_get, Some};
+ghost use Rattle.std.specs.Prelude.{IfOk, OnOk, option_map};
 ghost use Rattle.std.specs.List.{All};
 ghost use Rattle.geo_base.specs.Near.{IsNearRect};
 ghost use Rattle.geo_base.specs.Rects.{IsRect};
 ghost use Rattle.geo_base.specs.declared.layer.LayerKey.{LayerKey};
+ghost use Rattle.geo_base.specs.declared.shapes.Rect.{Rect};
 ghost use Rattle.geo_base.specs.declared.shapes.Square.{Square};
 ghost use Rattle.rect_sets.specs.Near.{IsNearSet};
 ghost use Rattle.rect_sets.specs.Rects.{covers};
@@ -63,6 +64,31 @@ fn push_part(
     Ok(())
 }
 
+// The same of a set that may be told.
+fn push_told(
+    alloc: Global,
+    out: &mut Vec<Rect>,
+    place: &Place,
+    below: &Rect,
+    set: Option<&RectSet>,
+    plane: &Rect,
+) -> Result<(), AllocError>
+    requires near { IsNearArray place.now }
+    requires some { 0 < place.now.columns }
+    requires below { IsFrame below.now }
+    requires plane { IsRectWithin (2 ^ 39) plane.now }
+    requires pieces { All (IsPiece plane.now) out.old.items }
+    ensures pieces { OnOk result (All (IsPiece plane.now) out.new.items) }
+    ensures grows { OnOk result (Grows out.old.items out.new.items) }
+    ensures brings { OnOk result ((s : List Rect) → option_map (λ t. t.now) set.entry ≡ Some s
+        → Brings place.now below.now s plane.now out.new.items) }
+{
+    match set {
+        Some(set) => push_part(alloc, out, place, below, set, plane),
+        None => Ok(()),
+    }
+}
+
 // Adds what the cell of a reference leaves for a device rule, and what others may make of its
 // regions' layer there, in the cell's hull grown so far, by all its elements.
 fn push_reference(
@@ -93,11 +119,9 @@ fn push_reference(
         Some(hull) => {
             let below = grown_hull(&hull, by);
             let zone = site.zones.left(place.cell, ZoneKey::Device(at.number));
+            let lone = site.zones.lone(place.cell, at.number);
             push_part(alloc, out, place, &below, zone, plane)?;
-            match site.zones.lone(place.cell, at.number) {
-                Some(lone) => push_part(alloc, out, place, &below, lone, plane),
-                None => Ok(()),
-            }
+            push_told(alloc, out, place, &below, lone, plane)
         }
         None => Ok(()),
     }
@@ -183,9 +207,9 @@ fn push_all_own(
 
 /// Squares of a cell around which all its own gates for a device rule lie: each gate that isn't a
 /// placed cell's touches one of them. They are all squares within the rule's reach of its seeds. A
-/// cell costs its own rectangles on the layers that the rule reads and, for each reference, what is
-/// disturbed in the placed cell, once for each element; a reference to a cell in which nothing is
-/// disturbed costs one look.
+/// cell costs its own rectangles on the layers that the rule reads and, for each reference, what the
+/// placed cell leaves and what others may make there, once for each element; a reference to a cell
+/// that leaves nothing costs one look.
 pub fn seeds_of(alloc: Global, at: &DeviceSite) -> Result<RectSet, AllocError>
     requires ready { IsReadyDevice at.now }
     ensures near { IfOk result IsNearSet }

@@ -6,8 +6,7 @@ use cell_graph::Design;
 use deep_tables::Zones;
 use rule_text::RuleSet;
 
-/// A reached cell of a layout, with the rules, and the layout's disturbed squares and layers for
-/// them.
+/// A reached cell of a layout, with the rules, and the layout's zones and layers for them.
 #[derive(Clone, Copy)]
 pub struct Site<'a> {
     pub design: &'a Design,

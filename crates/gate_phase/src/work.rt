@@ -29,9 +29,8 @@ use std::marker::Model;
 use std::snapshot::Snapshot;
 use std::thread::Threads;
 
-/// What the phases of a layout read, its disturbed squares, layers and nets, and the jobs of both
-/// phases: they go through the design's order. As they read the tables of all cells, none waits for
-/// another.
+/// What the phases of a layout read, its zones, layers and nets, and the jobs of both phases: they
+/// go through the design's order. As they read the tables of all cells, none waits for another.
 #[derive(Drop)]
 pub struct DeviceWork<'a> {
     wired: &'a Wired<'a>,

@@ -1,5 +1,5 @@
 -- What a cell keeps of the squares in both of two names.
-use Rattle.std.proofs.Common.{◌≡◌, ◌⊎◌, inl, inr, ℕ, max, List, [], ◌∷◌, ◌++◌}
+use Rattle.std.proofs.Common.{◌≡◌, ℕ, max, ◌++◌}
 use Rattle.std.proofs.Math.Nat.{le-max_left, le-max_right, le_refl}
 use Rattle.geo_base.specs.declared.layer.LayerKey.{LayerKey}
 use Rattle.geo_base.specs.declared.shapes.Square.{Square}

@@ -10,8 +10,7 @@ use Rattle.flat_layout.specs.Gates.{Geometry, IsSettled, IsGateBelow, IsListedGa
 use Rattle.flat_layout.specs.Layers.{IsKept}
 use Rattle.flat_layout.specs.Layout.{Design}
 use Rattle.flat_layout.specs.Parts.{IsStep, InPart}
-use Rattle.flat_layout.specs.Plane.{IsAround}
-use Rattle.flat_layout.specs.Seeds.{IsNearSeed, IsClosed}
+use Rattle.flat_layout.specs.Seeds.{IsClosed}
 use Rattle.flat_laws.proofs.Found.{kept_part, closed, unfound}
 use Rattle.flat_laws.proofs.Opens.{unfound_open}
 use Rattle.gate_shapes.specs.Sets.{in_set}

@@ -11,7 +11,8 @@ pub fn searched()
     ensures known { KnownLaw }
 {}
 
-/// What a cell keeps of the squares in both of two names it keeps of each, less what is disturbed.
+/// What a cell keeps of the squares in both of two names it keeps of each, less those near which not
+/// all is shut.
 pub fn both_kept()
     ensures { KeptBothLaw }
 {}

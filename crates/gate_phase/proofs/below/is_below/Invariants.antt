@@ -5,4 +5,4 @@ use Rattle.gate_phase.proofs.below.is_below.Given as goal
 
 abbrev pub invariant-loop-visit : goal.invariant-loop-visit
 invariant-loop-visit l =
-    (k : ℕ) → k < l.visit-index → IsFreeIn l.at.reach l.at.site.design.now l.at.site.zones.now l.at.number l.close (slice_index_or l.visit-items k no_visit).cell (slice_index_or l.visit-items k no_visit).motion → ⊥
+    (k : ℕ) → k < l.visit-index → IsFreeIn l.at.reach l.at.site.design.now l.at.site.zones.now l.at.number l.part l.close (slice_index_or l.visit-items k no_visit).cell (slice_index_or l.visit-items k no_visit).motion → ⊥

@@ -13,6 +13,9 @@ use Rattle.gate_phase.proofs.own.own_gate.Goals as goal
 pub close_to-requires : goal.close_to-requires
 close_to-requires c = held_near c.args.at.now.reach c.args.at.now.site.design.now c.args.at.now.site.cell c.args.part c.requires.ready.most c.sound.ensures c.requires.held
 
+pub is_own-requires-clause-part : goal.is_own-requires-clause-part
+is_own-requires-clause-part c = held_near c.args.at.now.reach c.args.at.now.site.design.now c.args.at.now.site.cell c.args.part c.requires.ready.most c.sound.ensures c.requires.held
+
 pub is_own-requires-clause-near : goal.is_own-requires-clause-near
 is_own-requires-clause-near c = close_near c.args.at.now.reach c.args.at.now.site.design.now c.args.at.now.site.cell c.args.part c.in_ok-close.close c.requires.ready.most c.sound.ensures c.requires.held c.in_ok-close.ensures
 

@@ -1,4 +1,4 @@
-use Rattle.std.proofs.Common.{◌≡◌, ◌∙◌, [], sym, subst, length}
+use Rattle.std.proofs.Common.{◌≡◌, inl, ◌∙◌, [], sym, subst, length}
 use Rattle.std.proofs.lemmas.Bool.{eqb-true}
 use Rattle.flat_layout.specs.Gates.{geometry}
 use Rattle.flat_layout.specs.Layers.{Formula, IsKept}
@@ -35,7 +35,7 @@ returns-then-is_empty c =
       record {
         sound = (read_layers w u).gate;
         reached = c.requires.ready.site.reached;
-        all = λ q h. leaf_seed d (geometry w u) cell q c.sound.ensures none h;
+        all = inl (λ q h. leaf_seed d (geometry w u) cell q c.sound.ensures none h);
         gathered = subst (λ (x : Formula). IsGatheredAround (IsKept (plain d) cell x) seeds p.found) (sym is.region) p.gathered;
         parted = p.parted;
       },

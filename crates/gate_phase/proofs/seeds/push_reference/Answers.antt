@@ -13,5 +13,11 @@ push_part-requires-clause-near c = near_array c.args.at.now.site.design.now c.ar
 pub push_part-requires-clause-some : goal.push_part-requires-clause-some
 push_part-requires-clause-some c = (reference_at c.args.at.now.site.design.now c.args.at.now.site.cell c.args.index c.args.place.now c.sound.ensures c.requires.there).2.columns
 
-pub grown_hull-requires-clause-hull : goal.grown_hull-requires-clause-hull
-grown_hull-requires-clause-hull c = subst HullIsSound (sym c.hull.ensures ∙ c.in-Some.is) (hull_sound c.args.at.now.site.design.now c.args.place.now.cell c.sound.ensures)
+pub grown_hull-below-requires-clause-hull : goal.grown_hull-below-requires-clause-hull
+grown_hull-below-requires-clause-hull c = subst HullIsSound (sym c.hull.ensures ∙ c.in-Some.is) (hull_sound c.args.at.now.site.design.now c.args.place.now.cell c.sound.ensures)
+
+pub push_told-requires-clause-near : goal.push_told-requires-clause-near
+push_told-requires-clause-near c = near_array c.args.at.now.site.design.now c.args.at.now.site.cell c.args.index c.args.place.now c.sound.ensures c.requires.there
+
+pub push_told-requires-clause-some : goal.push_told-requires-clause-some
+push_told-requires-clause-some c = (reference_at c.args.at.now.site.design.now c.args.at.now.site.cell c.args.index c.args.place.now c.sound.ensures c.requires.there).2.columns
