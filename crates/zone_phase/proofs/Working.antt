@@ -2,6 +2,7 @@
 use Rattle.std.proofs.Common.{◌≡◌, ◌⊎◌, inl, inr, ℕ, zero, suc, ◌+◌, ◌<◌, ◌-◌, ◌++◌, List, [], ◌∷◌, map, max, ◌≤◌, append_assoc, length-append, true, Some, ap, refl, sym, ◌∙◌, subst, arith, length, get_or, slice_get, slice_index, IsSome, IsSomeAnd, Option, None}
 use Rattle.std.specs.List.{All}
 use Rattle.std.proofs.Math.Nat.{le-max_left, le-max_right, le_trans}
+use Rattle.std.proofs.lemmas.Bool.{false≢true}
 use Rattle.std.proofs.lemmas.List.{append-nil, length-map}
 use Rattle.plain_netlist.specs.Lists.{IsListed}
 use Rattle.std.proofs.lemmas.Option.{slice_get_within, slice_get-get_or, get_or_from_slice_get}
@@ -299,7 +300,7 @@ module _ (d : Linked) (r : Rules) (read : List LayerRule) (cell : ℕ) (hull : I
         (subst (IsZone (plain d) (key ∷ []) margin cell) (sym (left.kept i key is.0)) is.1);
     rules = left.devices.count ∙ device_count r;
     devices = device_open zones v left sets;
-    covered = ((λ some. absurd (subst IsSome none some)), (λ e. absurd (other way e)));
+    covered = ((λ some. absurd (false≢true (subst IsSome none some))), (λ e. absurd (other way e)));
     lone = λ i u at e. absurd (other way e);
   }
     where
@@ -348,7 +349,7 @@ module _ (d : Linked) (r : Rules) (read : List LayerRule) (cell : ℕ) (hull : I
         (subst (λ (l : List (List Rect)). IsZone (plain d) (key ∷ []) margin cell (get_or l i [])) (sym h.inputs) is.1);
     rules = h.left.devices.count ∙ device_count r;
     devices = device_open h.bare v h.left h.sets;
-    covered = ((λ some. way), (λ e. subst IsSome (sym h.is) tt));
+    covered = ((λ some. way), (λ e. subst IsSome (sym h.is) refl));
     lone = λ i u at e.
         let count = h.lone.count in let regions = region_count in
         let lt = slice_get_within (device_rules r) i u at in

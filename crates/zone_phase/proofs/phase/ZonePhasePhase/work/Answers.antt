@@ -64,7 +64,7 @@ input_zones-requires-clause-entries g c = λ name key named k u at.
 
 pub left_zones-requires : goal.left_zones-requires
 left_zones-requires g c =
-    subst (λ (l : List LayerRule). length c.in_ok-zones.zones.items ≡ length (formulas l)) (c.deref-2.ensures.value ∙ sym c.deref-3.ensures.value) c.in_ok-zones.ensures.zones.count
+    subst (λ (l : List LayerRule). length c.in_ok-zones.zones.items ≡ length (formulas l)) (c.deref-2.ensures.value ∙ sym c.deref-in-Disturbed.ensures.value) c.in_ok-zones.ensures.zones.count
 
 pub returns-in-Disturbed : goal.returns-in-Disturbed
 returns-in-Disturbed g c =
@@ -82,8 +82,8 @@ returns-in-Disturbed g c =
     (λ v left sets none.
     subst (λ (z : ZoneJobs). AreCellZones (plain z.design) (rules_seen z.rules) (downward_cell z.design job) v) c.self.view_is
     (disturbed_zones d r read (downward_cell d job) hull a.rules a.read zones v way c.in_ok-zones.ensures.canonical over
-    (subst (λ (l : List LayerRule). AreLeft m d (downward_cell d job) r l zones v) c.deref-3.ensures.value
-    (left m d (downward_cell d job) (subst (λ (l : List LayerRule). AreInputOpens m d (downward_cell d job) (formulas l) zones) (sym c.deref-3.ensures.value) (opens_of m d (downward_cell d job) (formulas read) zones hull way c.in_ok-zones.ensures.canonical over))))
+    (subst (λ (l : List LayerRule). AreLeft m d (downward_cell d job) r l zones v) c.deref-in-Disturbed.ensures.value
+    (left m d (downward_cell d job) (subst (λ (l : List LayerRule). AreInputOpens m d (downward_cell d job) (formulas l) zones) (sym c.deref-in-Disturbed.ensures.value) (opens_of m d (downward_cell d job) (formulas read) zones hull way c.in_ok-zones.ensures.canonical over))))
     sets none))
     c.left_zones.ensures.left c.left_zones.ensures.sets c.left_zones.ensures.covered
 
@@ -93,12 +93,12 @@ covered_zones-requires-clause-covered g c = sym c.way.ensures ∙ c.in-Covered.i
 pub covered_zones-requires-clause-reach : goal.covered_zones-requires-clause-reach
 covered_zones-requires-clause-reach g c = λ k.
     let a = c.self.invariant in
-    subst (λ (l : List LayerRule). reach (get_or (formulas l) k Empty) ≤ 10000) (sym c.deref-4.ensures.value) (read_near (rules_seen c.self.inside.rules.now) c.self.inside.read.items k a.rules a.read)
+    subst (λ (l : List LayerRule). reach (get_or (formulas l) k Empty) ≤ 10000) (sym c.deref-in-Covered.ensures.value) (read_near (rules_seen c.self.inside.rules.now) c.self.inside.read.items k a.rules a.read)
 
 pub covered_zones-requires-clause-zones : goal.covered_zones-requires-clause-zones
 covered_zones-requires-clause-zones g c =
     subst (λ (l : List LayerRule). AreInputZones c.self.inside.margin c.self.inside.design.now (slice_index c.order-order.result.now (length c.order-order.result.now - 1 - c.args.job)) (formulas l) c.in_ok-zones.zones.items)
-    (c.deref-2.ensures.value ∙ sym c.deref-4.ensures.value) c.in_ok-zones.ensures.zones
+    (c.deref-2.ensures.value ∙ sym c.deref-in-Covered.ensures.value) c.in_ok-zones.ensures.zones
 
 pub covered_zones-requires-clause-used : goal.covered_zones-requires-clause-used
 covered_zones-requires-clause-used g c =
@@ -129,5 +129,5 @@ returns-in-Covered g c =
     (covered_entry d r read (downward_cell d job) (c.sound.ensures.hulls.each (downward_cell d job)) a.rules a.read zones v (sym c.way.ensures ∙ c.in-Covered.is) c.in_ok-zones.ensures.canonical over
     (subst (λ n. AreCoveredOf n d (downward_cell d job) r read zones v) a.margin
     (subst (λ n. AreCoveredOf c.self.inside.margin d n r read zones v) cell
-    (subst (λ (l : List LayerRule). AreCoveredOf c.self.inside.margin d here r l zones v) c.deref-4.ensures.value h)))))
+    (subst (λ (l : List LayerRule). AreCoveredOf c.self.inside.margin d here r l zones v) c.deref-in-Covered.ensures.value h)))))
     c.covered_zones.ensures
