@@ -13,5 +13,5 @@ returns-clause-left c = λ n d cell all.
       names = subst (AreNameOpens n d cell trees) (sym layers) opens;
       kept = subst (AreInputsKept trees c.args.inputs.items) (sym layers) c.in_ok-layers.ensures.kept;
       devices = subst (AreDeviceOpens n d cell trees (device_names (rules_seen c.args.rules.now))) (sym c.in_ok-zones.ensures.devices)
-      (c.in_ok-devices.ensures.zones n d cell trees (subst (AreNameOpens n d cell trees) (sym c.deref.ensures.value) opens));
+          (c.in_ok-devices.ensures.zones n d cell trees (subst (AreNameOpens n d cell trees) (sym c.deref.ensures.value) opens));
     }
