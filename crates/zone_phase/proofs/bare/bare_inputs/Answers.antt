@@ -1,5 +1,4 @@
-use Rattle.std.proofs.Common.{◌≡◌, ◌∙◌, ◌+◌, ◌<◌, ◌++◌, ◌∷◌, [], ℕ, Some, List, ap, arith, sym, subst, drop, get_or, length, length-append, slice_get}
-use Rattle.geo_base.specs.declared.shapes.Rect.{Rect}
+use Rattle.std.proofs.Common.{◌≡◌, ◌∙◌, ◌+◌, ◌<◌, ◌++◌, ◌∷◌, [], ℕ, Some, List, ap, arith, sym, subst, drop, length, length-append, slice_get}
 use Rattle.flat_layout.specs.Layers.{Formula}
 use Rattle.rule_layers.specs.Formulas.{formula_by, formulas}
 use Rattle.deep_tables.specs.Frames.{IsFramedOpen, IsFramedZone}

@@ -1,4 +1,4 @@
-use Rattle.std.proofs.Common.{◌++◌, [], get_or, rules, w32, subst, sym}
+use Rattle.std.proofs.Common.{[], get_or, rules, w32, subst, sym}
 use mir.Val.{SFits}
 use Rattle.std.proofs.lemmas.Int.{to_z-of_z}
 use Rattle.flat_layout.specs.Layers.{Empty}

@@ -1,8 +1,8 @@
-use Rattle.std.proofs.Common.{◌+◌, ◌++◌, [], ◌∷◌, List, ℕ, sym, subst, map, take}
+use Rattle.std.proofs.Common.{◌+◌, ◌++◌, [], ◌∷◌, List, sym, subst, map, take}
 use Rattle.std.proofs.lemmas.List.{take_all}
 use Rattle.flat_layout.specs.Layers.{Formula}
 use Rattle.rule_text.specs.declared.rules.MoreRule.{MoreRule}
-use Rattle.zone_phase.specs.Lone.{AreRegionLones, IsLoneIn, further_region}
+use Rattle.zone_phase.specs.Lone.{AreRegionLones, further_region}
 use Rattle.zone_phase.proofs.Naming.{last_set, taken_more}
 use Rattle.zone_phase.proofs.Loning.{regions_more}
 use Rattle.zone_phase.proofs.lone.push_further_lones.Goals as goal

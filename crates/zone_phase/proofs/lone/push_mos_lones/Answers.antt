@@ -1,4 +1,4 @@
-use Rattle.std.proofs.Common.{◌+◌, ◌++◌, [], ◌∷◌, List, ℕ, sym, subst, map, take}
+use Rattle.std.proofs.Common.{◌+◌, ◌++◌, [], ◌∷◌, List, sym, subst, map, take}
 use Rattle.std.proofs.lemmas.List.{take_all}
 use Rattle.flat_layout.specs.Layers.{Formula}
 use Rattle.rule_text.specs.declared.rules.MosRule.{MosRule}

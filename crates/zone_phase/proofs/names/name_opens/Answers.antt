@@ -1,6 +1,7 @@
 use Rattle.std.proofs.Common.{◌≡◌, ◌∙◌, ◌+◌, ◌<◌, ◌++◌, ◌∷◌, [], ℕ, Some, List, ap, arith, sym, subst, drop, get_or, length, length-append, slice_get}
 use Rattle.geo_base.specs.declared.shapes.Rect.{Rect}
 use Rattle.flat_layout.specs.Layers.{Formula}
+use Rattle.rule_text.specs.declared.rules.LayerRule.{LayerRule}
 use Rattle.rule_layers.specs.Formulas.{formula_by, formulas, formulas_behind}
 use Rattle.cell_graph.proofs.Finishes.{one_yielded}
 use Rattle.deep_tables.specs.Frames.{IsFramedOpen}
@@ -11,13 +12,14 @@ use Rattle.zone_phase.proofs.names.name_opens.Goals as goal
 pub loop-input-preserved : goal.loop-input-preserved
 loop-input-preserved c =
     let had = c.loop-input.invariant in let names = c.args.names.now in let given = c.args.inputs.items in
-    let sets = c.loop-input.sets.items in let set = c.in_ok-set.set in let rule = c.index-names-len.result in let input = c.in-Some.input in
+    let sets = c.loop-input.sets.items in let set = c.in_ok-set.set in let rule = get_or names c.len.result c.index-names-len.result in let input = c.in-Some.input in
     let steps = (c.in-Some.ensures {u = tt}).steps.0 in let e = c.in_ok-push_set.ensures.list in
     let size : c.len.result ≡ length sets = (let e = c.len.ensures in let long = c.loop-input.sets.ok.0 in omega (arith, e, long)) in
+    let ruled : get_or names (length sets) rule ≡ rule = subst (λ (k : ℕ). get_or names k rule ≡ rule) size (subst (λ (x : LayerRule). get_or names c.len.result x ≡ x) c.index-names-len.is (sym c.index-names-len.is)) in
     let tree = formula_by had.0 rule.form in
     let rest = c.loop-input.input-iterator.rest.items in
     let left = c.next.new.self.rest.items in
-    let on : formulas_behind (had.0 ++ tree ∷ []) (drop (length sets + 1) names) ≡ formulas names = one_on had.0 names (length sets) rule (some_given names given c.loop-input.yielded rest left input (length sets) c.requires had.3 had.4 steps) (sym (subst (λ (k : ℕ). rule ≡ get_or names k rule) size c.index-names-len.is)) ∙ had.1 in
+    let on : formulas_behind (had.0 ++ tree ∷ []) (drop (length sets + 1) names) ≡ formulas names = one_on had.0 names (length sets) rule (some_given names given c.loop-input.yielded rest left input (length sets) c.requires had.3 had.4 steps) ruled ∙ had.1 in
     let longer : length (sets ++ set ∷ []) ≡ length sets + 1 = length-append sets (set ∷ []) in
     let here : get_or given (length c.loop-input.yielded) [] ≡ input = given_at given c.loop-input.yielded rest left input had.4 steps in
     let at : get_or given (length sets) [] ≡ input = ap (λ (k : ℕ). get_or given k []) (sym had.3) ∙ here in (
