@@ -1,9 +1,11 @@
 -- What others may make of names, one name on.
-use Rattle.std.proofs.Common.{◌≡◌, ◌↔◌, inl, inr, ℕ, zero, suc, ◌+◌, ◌<◌, ◌≤◌, ◌^◌, max, ℤ, unsigned_abs, Bool, true, false, List, [], ◌∷◌, ◌++◌, Some, None, refl, sym, ap, ◌∙◌, subst, arith, length, length-append, get_or, slice_get}
+use Rattle.std.proofs.Common.{◌≡◌, ◌⊎◌, ◌↔◌, inl, inr, ℕ, zero, suc, ◌+◌, ◌<◌, ◌≤◌, ◌^◌, max, ℤ, unsigned_abs, Bool, true, false, List, [], ◌∷◌, ◌++◌, Some, None, refl, sym, ap, ◌∙◌, subst, arith, length, length-append, get_or, slice_get}
+use Rattle.std.specs.List.{All}
 use Rattle.base_laws.proofs.Items.{push_cases, get_last}
 use Rattle.std.proofs.Math.Decide.{ℕ_discrete}
 use Rattle.std.proofs.Math.Nat.{le-max_left, le-max_right}
 use Rattle.std.proofs.lemmas.Bool.{cases_lt}
+use Rattle.std.proofs.lemmas.Int.{ints}
 use Rattle.std.proofs.lemmas.List.{get_or_append_left, get_or_push, get_or_past}
 use Rattle.std.proofs.lemmas.Option.{get_or_from_slice_get, slice_get_within}
 use Rattle.geo_base.specs.declared.layer.LayerKey.{LayerKey}
@@ -16,7 +18,7 @@ use Rattle.flat_layout.specs.Hull.{IsInHull}
 use Rattle.flat_layout.specs.Layers.{Formula, Input, Empty, Binary, Sized, reach}
 use Rattle.flat_layout.specs.Plane.{IsSized}
 use Rattle.flat_layout.specs.Values.{IsLoneZone, IsZone}
-use Rattle.cell_graph.specs.Linked.{Linked, plain}
+use Rattle.cell_graph.specs.Linked.{Linked, IsSound, plain}
 use Rattle.rule_text.specs.declared.rules.LayerForm.{LayerForm}
 use Rattle.rule_text.specs.declared.rules.LayerForm.TheVariants as form
 use Rattle.rule_text.specs.declared.rules.LayerRule.{LayerRule}
@@ -24,10 +26,12 @@ use Rattle.rule_layers.specs.Formulas.{formula_by, formulas, formulas_behind}
 use Rattle.sized_layers.specs.Sizes.{IsSetWithin, growth}
 use Rattle.deep_laws.specs.Opens.{lone_of}
 use Rattle.deep_laws.proofs.Opens.{lone_input, lone_binary, lone_sized}
+use Rattle.deep_tables.proofs.Framing.{framed}
 use Rattle.deep_tables.proofs.Nothing.{no_zone}
-use Rattle.zone_phase.specs.Lone.{AreLones, AreRegionLones, IsLoneIn, IsNearZone}
-use Rattle.zone_phase.proofs.Naming.{behind_stays}
-use Rattle.zone_phase.proofs.Nearby.{growth_most, wider_set}
+use Rattle.zone_phase.specs.Lone.{AreLones, AreRegionLones, IsLoneIn}
+use Rattle.zone_phase.specs.Names.{AreInputZones, ForInputs}
+use Rattle.zone_phase.proofs.Naming.{behind_stays, set_canonical}
+use Rattle.zone_phase.proofs.Nearby.{growth_most, held_near, wider_set}
 
 -- nothing is made of an empty name
 pub no_lone : (n : ℕ) (d : Linked) (cell : ℕ) (v : List Rect) → v ≡ [] → IsLoneIn n d cell Empty v
@@ -61,6 +65,19 @@ input_lone n d cell key v h = record {
   range = wider_set (2 ^ 37) (2 ^ 37 + 0) v (omega arith) h.1;
 }
 
+-- what lies over a cell on the input layers lies near
+pub near_zones : (n : ℕ) (d : Linked) (cell : ℕ) (trees : List Formula) (sets : List (List Rect)) → IsSound d → n ≤ 20001 → All IsCanonical sets → AreInputZones n d cell trees sets → ForInputs (λ key v. IsZone (plain d) (key ∷ []) n cell v × IsSetWithin (2 ^ 37) v) trees sets
+near_zones n d cell trees sets sound most canonical h = record {
+  count = h.count;
+  each = λ k key at.
+      let set = get_or sets k [] in
+      let whole = set_canonical sets k (length trees) canonical h.count (slice_get_within trees k (Input key) at) in
+      let is = h.each k key at in (
+        (framed d (key ∷ []) n cell set (sound.hulls.each cell) whole).1 is,
+        held_near n d cell set sound most (λ q e. ((is q).0 e).1),
+      );
+}
+
 lone_some : (op : Op) (a b : Bool) → lone_of op a b ≡ true → (a ≡ true) ⊎ (b ≡ true)
 lone_some op true b e = inl refl
 lone_some op false true e = inr refl
@@ -80,9 +97,9 @@ binary_lone n d cell op x y a b v made canonical one other = record {
   ];
 }
 
-pub sized_lone : (n : ℕ) (d : Linked) (cell : ℕ) (by : ℤ) (x : Formula) (a v : List Rect) → ((q : Square) → (covers v q ≡ true) ↔ IsSized by (λ (z : Square). covers a z ≡ true) q)
+pub lone_of_sized : (n : ℕ) (d : Linked) (cell : ℕ) (by : ℤ) (x : Formula) (a v : List Rect) → ((q : Square) → (covers v q ≡ true) ↔ IsSized by (λ (z : Square). covers a z ≡ true) q)
     → ((m : ℕ) → IsSetWithin m a → IsSetWithin (m + growth by) v) → IsCanonical v → IsLoneIn n d cell x a → IsLoneIn n d cell (Sized by x) v
-sized_lone n d cell by x a v made range canonical one = record {
+lone_of_sized n d cell by x a v made range canonical one = record {
   right = λ m le. lone_sized (plain d) by x m cell a v (one.right (m + unsigned_abs by) (omega (arith, le))) canonical made;
   range = wider_set ((2 ^ 37 + reach x) + growth by) (2 ^ 37 + (reach x + unsigned_abs by)) v (let le = growth_most by in omega (arith, le)) (range (2 ^ 37 + reach x) one.range);
 }

@@ -3,8 +3,8 @@ use Rattle.std.proofs.Common.{◌≡◌, inl, inr, ◌<◌, ◌≤◌, ◌+◌, 
 use Rattle.base_laws.proofs.Items.{push_cases, push_old, get_last}
 use Rattle.std.specs.List.{All}
 use Rattle.std.proofs.lemmas.Bool.{cases_lt}
-use Rattle.std.proofs.lemmas.List.{at_drop_more, get_or_append_left, get_or_push, get_or_past, map-append, take_all, take_more}
-use Rattle.std.proofs.lemmas.Option.{slice_get_within}
+use Rattle.std.proofs.lemmas.List.{at_drop_all, at_drop_more, get_or_append_left, get_or_push, get_or_past, map-append, take_all, take_more}
+use Rattle.std.proofs.lemmas.Option.{get_or_from_slice_get, slice_get-get_or, slice_get_within}
 use Rattle.std.proofs.Math.Decide.{ℕ_discrete}
 use Rattle.geo_base.specs.declared.shapes.Rect.{Rect}
 use Rattle.rect_sets.specs.Rects.{IsCanonical}
@@ -15,7 +15,7 @@ use Rattle.cell_graph.specs.Linked.{Linked, plain}
 use Rattle.rule_text.specs.declared.rules.LayerForm.{LayerForm}
 use Rattle.rule_text.specs.declared.rules.LayerForm.TheVariants as form
 use Rattle.rule_text.specs.declared.rules.LayerRule.{LayerRule}
-use Rattle.rule_layers.specs.Formulas.{formula_by, formulas_behind}
+use Rattle.rule_layers.specs.Formulas.{formula_by, formulas, formulas_behind}
 use Rattle.deep_tables.specs.declared.zones.CellZones.{CellZones}
 use Rattle.deep_tables.specs.Frames.{IsFramedOpen}
 use Rattle.zone_phase.specs.declared.uses.Use.{Use}
@@ -70,6 +70,18 @@ form_entries margin d value trees all name uses form.Empty count behind h = tt
 form_entries margin d value trees all name uses (form.Binary op a b) count behind h = tt
 form_entries margin d value trees all name uses (form.Sized a by) count behind h = tt
 
+-- as many trees as names
+pub count_behind : (before : List Formula) (names : List LayerRule) → length (formulas_behind before names) ≡ length before + length names
+count_behind before [] = omega arith
+count_behind before (n ∷ names) = let r = count_behind (before ++ formula_by before n.form ∷ []) names in let m = length-append before (formula_by before n.form ∷ []) in omega arith
+
+-- the sets of a list are canonical
+pub canonical_at : (sets : List (List Rect)) (k : ℕ) (set : List Rect) → All IsCanonical sets → slice_get sets k ≡ Some set → IsCanonical set
+canonical_at sets k set all at = subst IsCanonical (get_or_from_slice_get sets k set [] at) (all k [] (slice_get_within sets k set at))
+
+pub set_canonical : (sets : List (List Rect)) (k n : ℕ) → All IsCanonical sets → length sets ≡ n → k < n → IsCanonical (get_or sets k [])
+set_canonical sets k n all count lt = canonical_at sets k (get_or sets k []) all (slice_get-get_or sets k [] (omega (arith, count, lt)))
+
 -- a set that was added is canonical
 pub last_set : (sets new : List (List Rect)) (set : List Rect) → new ≡ sets ++ set ∷ [] → All IsCanonical new → IsCanonical set
 last_set sets new set e all = subst IsCanonical (get_or_push sets set [] (length sets) refl) ((subst (λ (l : List (List Rect)). All IsCanonical l) e all) (length sets) [] (let m = length-append sets (set ∷ []) in omega arith))
@@ -81,6 +93,18 @@ given_at all xs rest ys y e f = ap (λ (l : List (List Rect)). get_or l (length 
     at : (xs : List (List Rect)) → get_or (xs ++ y ∷ ys) (length xs) [] ≡ y
     at [] = refl
     at (x ∷ xs) = at xs
+
+-- what was given before is less than all
+pub some_given : (names : List LayerRule) (all xs rest ys : List (List Rect)) (y : List Rect) (count : ℕ) → length all ≡ length (formulas names) → length xs ≡ count → all ≡ xs ++ rest → rest ≡ y ∷ ys → count < length names
+some_given names all xs rest ys y count long is e f =
+    let parts = ap length e ∙ length-append xs rest in let one = ap length f in let trees = count_behind [] names in
+    omega (arith, long, is, parts, one, trees)
+
+-- and once all are given all names have their trees
+pub all_given : (names : List LayerRule) (trees : List Formula) (all xs rest : List (List Rect)) (count : ℕ) → length all ≡ length (formulas names) → length xs ≡ count → all ≡ xs ++ rest → length rest ≡ 0 → formulas_behind trees (drop count names) ≡ formulas names → trees ≡ formulas names
+all_given names trees all xs rest count long is e none on =
+    let parts = ap length e ∙ length-append xs rest in let many = count_behind [] names in
+    sym (at_drop_all (formulas_behind trees) names count (omega (arith, long, is, parts, none, many))) ∙ on
 
 -- ---- the sets of input layers
 
@@ -128,11 +152,6 @@ kept_more trees f given sets set count h is k key at = elim (push_cases trees (f
       get_or_push sets set [] k (count ∙ sym new.0) ∙ input_form (λ j v. v ≡ get_or given (length trees) []) trees f key set new.1 is
       ∙ ap (λ (n : ℕ). get_or given n []) (sym new.0)
 ]
-
--- as many trees as names
-pub count_behind : (before : List Formula) (names : List LayerRule) → length (formulas_behind before names) ≡ length before + length names
-count_behind before [] = omega arith
-count_behind before (n ∷ names) = let r = count_behind (before ++ formula_by before n.form ∷ []) names in let m = length-append before (formula_by before n.form ∷ []) in omega arith
 
 -- ---- the zones of device rules
 

@@ -2,6 +2,7 @@
 use Rattle.std.proofs.Common.{◌≡◌, ◌⊎◌, inl, inr, ℕ, zero, suc, ◌+◌, ◌<◌, ◌-◌, ◌++◌, List, [], ◌∷◌, map, max, ◌≤◌, append_assoc, length-append, true, Some, ap, refl, sym, ◌∙◌, subst, arith, length, get_or, slice_get, slice_index, IsSome, IsSomeAnd, Option, None}
 use Rattle.std.specs.List.{All}
 use Rattle.std.proofs.Math.Nat.{le-max_left, le-max_right, le_trans}
+use Rattle.std.proofs.lemmas.Bool.{false≢true}
 use Rattle.std.proofs.lemmas.List.{append-nil, length-map}
 use Rattle.plain_netlist.specs.Lists.{IsListed}
 use Rattle.std.proofs.lemmas.Option.{slice_get_within, slice_get-get_or, get_or_from_slice_get}
@@ -46,6 +47,7 @@ use Rattle.zone_phase.specs.Jobs.{IsEntry}
 use Rattle.zone_phase.specs.Lone.{device_regions, further_region, mos_region}
 use Rattle.zone_phase.specs.Names.{AreDeviceOpens, AreInputOpens, AreInputZones, device_names, further_names, mos_names, names_inputs}
 use Rattle.zone_phase.specs.Phase.{AreCoveredOf, AreLeft, HasSets}
+use Rattle.zone_phase.proofs.Naming.{canonical_at, set_canonical}
 use Rattle.zone_phase.specs.Uses.{AreUses, AreUsesOf, HasUse, uses_of}
 
 -- the references to one cell come from all reached cells
@@ -88,9 +90,6 @@ entry_of d r cell name key v hulls reached at read h =
 pub some_more : {A : Type 0} (P Q : A → Type 0) (o : Option A) → ((x : A) → P x → Q x) → IsSomeAnd o P → IsSomeAnd o Q
 some_more P Q None f h = h
 some_more P Q (Some x) f h = f x h
-
-canonical_at : (sets : List (List Rect)) (k : ℕ) (set : List Rect) → All IsCanonical sets → slice_get sets k ≡ Some set → IsCanonical set
-canonical_at sets k set all at = subst IsCanonical (get_or_from_slice_get sets k set [] at) (all k [] (slice_get_within sets k set at))
 
 -- a name that is asked has one tree over the names, and over them as they are seen
 asked_tree : (r : Rules) (read : List LayerRule) (i : ℕ) (x : Formula) → AreRead r.names r.devices r.more read → get_or (formulas r.names) i Empty ≡ x → IsAsked r i x → get_or (formulas r.names) i Empty ≡ get_or (formulas read) i Empty
@@ -250,9 +249,6 @@ device_zone_at margin d r read cell sets sound are h i u zone at there = elim (o
 
 -- ---- the entry of a cell, from the names as they are seen
 
-set_canonical : (sets : List (List Rect)) (k n : ℕ) → All IsCanonical sets → length sets ≡ n → k < n → IsCanonical (get_or sets k [])
-set_canonical sets k n all count lt = canonical_at sets k (get_or sets k []) all (slice_get-get_or sets k [] (omega (arith, count, lt)))
-
 -- where a cell leaves all that lies over it, that is what it leaves
 pub opens_of : (n : ℕ) (d : Linked) (cell : ℕ) (trees : List Formula) (sets : List (List Rect)) → IsHullOf (plain d) cell (hull_of (cell_at d cell)) → d.way ≡ Disturbed → All IsCanonical sets → AreInputZones n d cell trees sets → AreInputOpens n d cell trees sets
 opens_of n d cell trees sets hull way canonical h = record {
@@ -304,7 +300,7 @@ module _ (d : Linked) (r : Rules) (read : List LayerRule) (cell : ℕ) (hull : I
         (subst (IsZone (plain d) (key ∷ []) margin cell) (sym (left.kept i key is.0)) is.1);
     rules = left.devices.count ∙ device_count r;
     devices = device_open zones v left sets;
-    covered = ((λ some. absurd (subst IsSome none some)), (λ e. absurd (other way e)));
+    covered = ((λ some. absurd (false≢true (subst IsSome none some))), (λ e. absurd (other way e)));
     lone = λ i u at e. absurd (other way e);
   }
     where
@@ -353,7 +349,7 @@ module _ (d : Linked) (r : Rules) (read : List LayerRule) (cell : ℕ) (hull : I
         (subst (λ (l : List (List Rect)). IsZone (plain d) (key ∷ []) margin cell (get_or l i [])) (sym h.inputs) is.1);
     rules = h.left.devices.count ∙ device_count r;
     devices = device_open h.bare v h.left h.sets;
-    covered = ((λ some. way), (λ e. subst IsSome (sym h.is) tt));
+    covered = ((λ some. way), (λ e. subst IsSome (sym h.is) refl));
     lone = λ i u at e.
         let count = h.lone.count in let regions = region_count in
         let lt = slice_get_within (device_rules r) i u at in

@@ -17,9 +17,9 @@ use Rattle.zone_phase.specs.Names.{ForInput}
 -- over what lies over the cell in the hull grown by n the set is right as far round, less what the
 -- name reaches, and near
 pub record IsLoneIn (n : ℕ) (d : Linked) (cell : ℕ) (name : Formula) (set : List Rect) : Type 0
-    where
-  pub right : (m : ℕ) → m + reach name ≤ n → IsLoneZone (plain d) name m cell set
-  pub range : IsSetWithin (2 ^ 37 + reach name) set
+  where
+    pub right : (m : ℕ) → m + reach name ≤ n → IsLoneZone (plain d) name m cell set
+    pub range : IsSetWithin (2 ^ 37 + reach name) set
 
 -- the same of each name; past the end both are empty
 abbrev pub AreLones : ℕ → Linked → ℕ → List Formula → List (List Rect) → Type 0

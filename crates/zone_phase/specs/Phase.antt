@@ -51,8 +51,8 @@ pub record HasSets (v : CellZones) : Type 0 where
   pub layers : All IsCanonical v.layers.items
   pub devices : All IsCanonical v.devices.items
 
--- where the cell keeps what it covers itself: what it leaves, what lies over it on the input layers,
--- and what others may make alone
+-- where the cell keeps what it covers itself: what it leaves, what lies over it on the input
+-- layers, and what others may make alone
 pub record AreCoveredOf (n : ℕ) (d : Linked) (cell : ℕ) (r : Rules) (read : List LayerRule)
     (zones : List (List Rect)) (v : CellZones) : Type 0 where
   pub sets : HasSets v

@@ -15,7 +15,7 @@ use rect_sets::RectSet;
 use rule_text::{LayerForm, LayerRule};
 use std::alloc::{AllocError, Global};
 
-// What lies over a cell from elsewhere on an input layer, without the cell's own flat squares there.
+// What lies over a cell from elsewhere on an input layer, without the cell's own flat squares.
 fn key_bare(
     alloc: Global,
     used: &UsedCell<'_>,
@@ -56,9 +56,9 @@ fn form_bare(
     }
 }
 
-/// The squares that a cell leaves for each name that is an input layer, where it keeps what it covers
-/// itself: what lies over it without its own flat squares there. A layer costs a walk below the cell
-/// in windows of what lies over it; where nothing does it costs nothing.
+/// The squares that a cell leaves for each name that is an input layer, where it keeps what it
+/// covers itself: what lies over it without its own flat squares there. A layer costs a walk below
+/// the cell in windows of what lies over it; where nothing does it costs nothing.
 pub fn bare_inputs(
     alloc: Global,
     used: &UsedCell<'_>,

@@ -90,8 +90,8 @@ fn push_further_zones(
     Ok(())
 }
 
-/// The squares that a cell leaves for each device rule, from those for the names: a union for each of
-/// the rule's layers.
+/// The squares that a cell leaves for each device rule, from those for the names: a union for each
+/// of the rule's layers.
 pub fn device_zones(
     alloc: Global,
     sets: &[RectSet],

@@ -21,8 +21,8 @@ use rect_sets::RectSet;
 use rule_text::{LayerRule, RuleSet};
 use std::alloc::{AllocError, Global};
 
-/// A cell's zones, from the squares of the input layers that it leaves: a union for each other name,
-/// and one for each layer of a device rule.
+/// A cell's zones, from the squares of the input layers that it leaves: a union for each other
+/// name, and one for each layer of a device rule.
 pub fn left_zones(
     alloc: Global,
     rules: &RuleSet,

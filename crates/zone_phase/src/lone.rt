@@ -26,13 +26,7 @@ use sized_layers::size;
 use std::alloc::{AllocError, Global};
 
 // The most that others can make of a name of two others: what is taken away they needn't draw.
-fn two_lones(
-    alloc: Global,
-    sets: &[RectSet],
-    op: Op,
-    a: u32,
-    b: u32,
-) -> Result<RectSet, AllocError>
+fn two_lones(alloc: Global, sets: &[RectSet], op: Op, a: u32, b: u32) -> Result<RectSet, AllocError>
     ensures { IfOk result (λ r. (q : Square) → covers r q ≡ lone_of op
         (covers (get_or sets.now a []) q) (covers (get_or sets.now b []) q)) }
 {
@@ -61,8 +55,8 @@ fn sized_lone(alloc: Global, sets: &[RectSet], a: u32, by: i32) -> Result<RectSe
     Ok(set)
 }
 
-// What others may make of a name, over the names before it. Of an input layer that is what lies over
-// the cell.
+// What others may make of a name, over the names before it. Of an input layer that is what lies
+// over the cell.
 fn form_lone(
     alloc: Global,
     form: LayerForm,

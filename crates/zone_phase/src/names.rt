@@ -36,7 +36,7 @@ fn two_zones(alloc: Global, sets: &[RectSet], a: u32, b: u32) -> Result<RectSet,
     Ok(set)
 }
 
-// What lies over a cell from elsewhere on the input layer of a name; nothing where the name is none.
+// What lies over a cell from elsewhere on the input layer of a name; nothing where it is none.
 fn form_zone<R: Reads<CellZones>>(
     alloc: Global,
     used: &UsedCell<'_>,
@@ -71,9 +71,9 @@ pub fn push_set(sets: &mut Vec<RectSet>, set: RectSet) -> Result<(), AllocError>
 }
 
 /// What lies over a cell from elsewhere on the input layer of each name that is one, in the cell's
-/// hull grown by the margin, in the order of the rules. What lies beside its placements is looked up
-/// once, in one window of the parent for each; then each input layer costs a walk of the references
-/// to the cell and of the neighbours that lie differently.
+/// hull grown by the margin, in the order of the rules. What lies beside its placements is looked
+/// up once, in one window of the parent for each; then each input layer costs a walk of the
+/// references to the cell and of the neighbours that lie differently.
 pub fn input_zones<R: Reads<CellZones>>(
     alloc: Global,
     used: &UsedCell<'_>,

@@ -1,4 +1,4 @@
-use Rattle.std.proofs.Common.{◌≡◌, ◌∙◌, ◌+◌, ◌++◌, ◌∷◌, [], ℕ, Some, List, ap, arith, refl, sym, subst, drop, length, length-append, slice_get}
+use Rattle.std.proofs.Common.{◌≡◌, ◌∙◌, ◌+◌, ◌++◌, ◌∷◌, [], ℕ, Some, List, ap, arith, refl, sym, subst, drop, length-append, slice_get}
 use Rattle.std.specs.List.{All}
 use Rattle.std.proofs.lemmas.List.{at_drop_all}
 use Rattle.std.proofs.lemmas.List.Elements.{All-nil}
@@ -46,7 +46,7 @@ loop-name-init g c =
 
 pub form_zone-requires-clause-neighbours : goal.form_zone-requires-clause-neighbours
 form_zone-requires-clause-neighbours g c =
-    subst (λ (l : List Neighbour). AreNear c.args.used.now.margin c.args.used.now.design.now c.args.used.now.cell c.args.used.now.uses.now l) (sym c.deref-in-loop-name.ensures.value) c.in_ok-neighbours.ensures
+    subst (λ (l : List Neighbour). AreNear c.args.used.now.margin c.args.used.now.design.now c.args.used.now.cell c.args.used.now.uses.now l) (sym c.deref.ensures.value) c.in_ok-neighbours.ensures
 
 pub returns-clause-zones : goal.returns-clause-zones
 returns-clause-zones g c =

@@ -1,4 +1,4 @@
-use Rattle.std.proofs.Common.{◌≡◌, ◌-◌, ◌∙◌, ℕ, Some, List, [], ap, sym, subst, length, pos, rules, slice_get, slice_index, slice_index_or}
+use Rattle.std.proofs.Common.{◌≡◌, ◌-◌, ◌∙◌, ℕ, Some, List, ap, sym, subst, length, pos, rules, slice_get, slice_index, slice_index_or}
 use Rattle.geo_base.specs.declared.shapes.Rect.{Rect}
 use Rattle.std.proofs.lemmas.Option.{slice_get_within}
 use Rattle.geo_base.specs.declared.motion.Turn.TheVariants.{R0}

@@ -1,0 +1,29 @@
+use Rattle.std.proofs.Common.{◌+◌, ◌++◌, [], ◌∷◌, List, sym, subst, map, take}
+use Rattle.std.proofs.lemmas.List.{take_all}
+use Rattle.flat_layout.specs.Layers.{Formula}
+use Rattle.rule_text.specs.declared.rules.MoreRule.{MoreRule}
+use Rattle.zone_phase.specs.Lone.{AreRegionLones, further_region}
+use Rattle.zone_phase.proofs.Naming.{last_set, taken_more}
+use Rattle.zone_phase.proofs.Loning.{regions_more}
+use Rattle.zone_phase.proofs.lone.push_further_lones.Goals as goal
+
+pub loop-rule-preserved : goal.loop-rule-preserved
+loop-rule-preserved c =
+    let e = c.in_ok-push_set.ensures.list in
+    let rules = c.args.rules.now in
+    let i = c.loop-rule.rule-index in
+    let rule = c.rule-item.result in
+    let had = c.loop-rule.invariant in
+    record {
+      lones = λ n d cell trees regions all old.
+          subst (AreRegionLones n d cell (regions ++ map (further_region trees) (take (i + 1) rules))) (sym e)
+          (subst (λ (xs : List Formula). AreRegionLones n d cell xs (c.loop-rule.lones.items ++ c.in_ok-set.set ∷ []))
+          (taken_more (further_region trees) regions rules i rule c.loop-rule-test.true c.rule-item.is)
+          (regions_more n d cell (regions ++ map (further_region trees) (take i rules)) (further_region trees rule) c.loop-rule.lones.items c.in_ok-set.set (had.lones n d cell trees regions all old) (c.in_ok-set.ensures n d cell trees all (last_set c.loop-rule.lones.items c.push_set.new.sets.items c.in_ok-set.set e c.in_ok-push_set.ensures.canonical))));
+      canonical = c.in_ok-push_set.ensures.canonical;
+    }
+
+pub returns-clause-lones : goal.returns-clause-lones
+returns-clause-lones c = λ n d cell trees regions all old.
+    subst (λ (rs : List MoreRule). AreRegionLones n d cell (regions ++ map (further_region trees) rs) c.loop-rule.lones.items) (take_all c.loop-rule.rule-index c.args.rules.now c.loop-rule-test.false)
+    (c.loop-rule.invariant.lones n d cell trees regions all old)
