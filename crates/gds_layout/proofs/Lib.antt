@@ -7,4 +7,3 @@ pub mod LinkLemmas
 pub mod SameDrafts
 pub mod OneFault
 pub mod OneLayout
-pub mod KeptRead
