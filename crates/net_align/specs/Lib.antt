@@ -9,3 +9,4 @@ pub mod Kept
 pub mod Side
 pub mod Paired
 pub mod Compared
+pub mod Selected

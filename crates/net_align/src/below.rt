@@ -1,10 +1,10 @@
 //! What stands below a top.
 ghost use Rattle.std.specs.Prelude.{◌<◌, IfOk, length};
-ghost use Rattle.net_align.specs.Compared.{AreTables, IsAlignable};
-ghost use Rattle.net_align.specs.Side.{AreMarkedCircuits, IsSide};
+ghost use Rattle.net_align.specs.Compared.{AreTables};
+ghost use Rattle.net_align.specs.Selected.{IsSelection};
+ghost use Rattle.net_align.specs.Side.{IsSide};
 ghost use Rattle.net_align.specs.Walked.{AreReached};
 ghost use Rattle.net_model.specs.Rows.{plain_netlist};
-ghost use Rattle.plain_netlist.specs.Lists.{AreApart};
 ghost use Rattle.plain_netlist.specs.Sound.{IsSoundNetlist};
 
 use crate::side::align_side;
@@ -22,6 +22,14 @@ pub struct Below {
     pub order: Vec<u32>,
     pub reached: Vec<bool>,
     pub holds: Vec<bool>,
+}
+
+/// Circuits of a netlist that an aligned one keeps, in its order, with what stands below the top.
+#[derive(Clone, Copy)]
+pub struct Selection<'a> {
+    pub netlist: &'a Netlist,
+    pub below: &'a Below,
+    pub circuits: &'a [u32],
 }
 
 // What stands below this top. Linear in the calls.
@@ -43,30 +51,22 @@ fn walk_below(alloc: Global, netlist: &Netlist, top: usize) -> Result<Below, All
     })
 }
 
-// These circuits, flattened and cut, in the order given.
+// The selected circuits, flattened and cut, in the order given.
 //
 // Linear in what is made: a circuit that goes is appended once for each call.
-fn side_of(
-    alloc: Global,
-    netlist: &Netlist,
-    below: &Below,
-    circuits: &[u32],
-) -> Result<Netlist, AllocError>
-    requires netlist { IsAlignable (plain_netlist netlist.now) }
-    requires tables { AreTables (plain_netlist netlist.now) below.now }
-    requires marked { AreMarkedCircuits
-        (plain_netlist netlist.now) below.now.reached.items circuits.now }
-    requires apart { AreApart circuits.now }
-    ensures { IfOk result (λ side.
-        IsSide (plain_netlist netlist.now) circuits.now (plain_netlist side)) }
+fn side_of(alloc: Global, selection: &Selection<'_>) -> Result<Netlist, AllocError>
+    requires { IsSelection selection.now }
+    ensures { IfOk result (λ side. IsSide (plain_netlist selection.now.netlist.now)
+        selection.now.circuits.now (plain_netlist side)) }
 {
+    let below = selection.below;
     align_side(
         alloc,
-        netlist,
+        selection.netlist,
         &below.order,
         &below.reached,
         &below.holds,
-        circuits,
+        selection.circuits,
     )
 }
 
@@ -97,37 +97,32 @@ pub fn walk_both<R: Threads, G>(
     Ok((left?, right?))
 }
 
-/// These circuits of a layout and of a schematic, flattened and cut, in the orders given; the two
-/// sides are worked side by side. Linear in what is made: a circuit that goes is appended once for
-/// each call.
+/// The selected circuits of a layout and of a schematic, flattened and cut, in the orders given; the
+/// two sides are worked side by side. Linear in what is made: a circuit that goes is appended once
+/// for each call.
 pub fn both_sides<R: Threads, G>(
     alloc: Global,
-    layout: &Netlist,
-    left: &Below,
-    lefts: &[u32],
-    schematic: &Netlist,
-    right: &Below,
-    rights: &[u32],
+    layout: &Selection<'_>,
+    schematic: &Selection<'_>,
     crew: &Crew<R, G>,
 ) -> Result<(Netlist, Netlist), AllocError>
-    requires layout { IsAlignable (plain_netlist layout.now) }
-    requires left { AreTables (plain_netlist layout.now) left.now }
-    requires left_marked { AreMarkedCircuits
-        (plain_netlist layout.now) left.now.reached.items lefts.now }
-    requires left_apart { AreApart lefts.now }
-    requires schematic { IsAlignable (plain_netlist schematic.now) }
-    requires right { AreTables (plain_netlist schematic.now) right.now }
-    requires right_marked { AreMarkedCircuits
-        (plain_netlist schematic.now) right.now.reached.items rights.now }
-    requires right_apart { AreApart rights.now }
-    ensures left { IfOk result (λ sides.
-        IsSide (plain_netlist layout.now) lefts.now (plain_netlist sides.0)) }
-    ensures right { IfOk result (λ sides.
-        IsSide (plain_netlist schematic.now) rights.now (plain_netlist sides.1)) }
+    requires layout { IsSelection layout.now }
+    requires schematic { IsSelection schematic.now }
+    ensures left { IfOk result (λ sides. IsSide (plain_netlist layout.now.netlist.now)
+        layout.now.circuits.now (plain_netlist sides.0)) }
+    ensures right { IfOk result (λ sides. IsSide (plain_netlist schematic.now.netlist.now)
+        schematic.now.circuits.now (plain_netlist sides.1)) }
 {
-    let (one, other) = crew.both(
-        || side_of(alloc, layout, left, lefts),
-        || side_of(alloc, schematic, right, rights),
-    );
+    let first = move || -> Result<Netlist, AllocError>
+        requires { IsSelection layout.now }
+        ensures { IfOk result (λ side. IsSide (plain_netlist layout.entry.now.netlist.now)
+            layout.entry.now.circuits.now (plain_netlist side)) }
+    { side_of(alloc, layout) };
+    let second = move || -> Result<Netlist, AllocError>
+        requires { IsSelection schematic.now }
+        ensures { IfOk result (λ side. IsSide (plain_netlist schematic.entry.now.netlist.now)
+            schematic.entry.now.circuits.now (plain_netlist side)) }
+    { side_of(alloc, schematic) };
+    let (one, other) = crew.both(first, second);
     Ok((one?, other?))
 }

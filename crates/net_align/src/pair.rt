@@ -8,7 +8,7 @@ ghost use Rattle.net_align.specs.Paired.{ArePairsBelow};
 ghost use Rattle.net_model.specs.Rows.{plain_netlist};
 ghost use Rattle.plain_netlist.specs.Lists.{AreApart};
 
-use crate::below::{Below, both_sides, walk_both};
+use crate::below::{Below, Selection, both_sides, walk_both};
 use crate::pairs::{Marks, Pairs, find_pairs};
 use crate::partners::find_partners;
 use job_board::Crew;
@@ -70,8 +70,17 @@ pub fn align<R: Threads, G>(
     let below = walk_both(alloc, layout, top as usize, schematic, right_top, crew)?;
     let (left, right) = (&below.0, &below.1);
     let pairs = pairs_below(alloc, &of, top as usize, left, right)?;
-    let (lefts, rights) = (&pairs.lefts, &pairs.rights);
-    let sides = both_sides(alloc, layout, left, lefts, schematic, right, rights, crew)?;
+    let lefts = Selection {
+        netlist: layout,
+        below: left,
+        circuits: &pairs.lefts,
+    };
+    let rights = Selection {
+        netlist: schematic,
+        below: right,
+        circuits: &pairs.rights,
+    };
+    let sides = both_sides(alloc, &lefts, &rights, crew)?;
     let (left, right) = sides;
     Ok(Some(Aligned { left, right }))
 }

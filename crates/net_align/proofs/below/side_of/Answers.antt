@@ -10,16 +10,16 @@ use Rattle.net_align.proofs.below.side_of.Goals as goal
 
 pub align_side-requires : goal.align_side-requires
 align_side-requires c =
-    let nl = plain_netlist c.args.netlist.now in
+    let nl = plain_netlist c.args.selection.now.netlist.now in
     let order : IsCallOrder (call_lists nl) c.deref.result.now = subst (λ (t : List ℕ). IsCallOrder (call_lists nl) t) (sym c.deref.ensures.value) c.requires.tables.order in (
-      is_given nl c.requires.netlist c.deref.result.now order c.deref-2.result.now c.deref-3.result.now c.args.circuits.now,
+      is_given nl c.requires.netlist c.deref.result.now order c.deref-2.result.now c.deref-3.result.now c.args.selection.now.circuits.now,
       (
         order,
         (
           subst (λ (t : List Bool). AreClosed nl t) (sym c.deref-2.ensures.value) c.requires.tables.closed,
           (
             subst (λ (t : List Bool). AreHolding nl t) (sym c.deref-3.ensures.value) c.requires.tables.holds,
-            (subst (λ (t : List Bool). AreMarkedCircuits nl t c.args.circuits.now) (sym c.deref-2.ensures.value) c.requires.marked, c.requires.apart),
+            (subst (λ (t : List Bool). AreMarkedCircuits nl t c.args.selection.now.circuits.now) (sym c.deref-2.ensures.value) c.requires.marked, c.requires.apart),
           ),
         ),
       ),

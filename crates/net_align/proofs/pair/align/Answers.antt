@@ -36,34 +36,29 @@ walk_both-requires-clause-right_top g c =
     let tops = has_top_partner c.args.layout.now (plain_netlist c.args.schematic.now) c.in_ok-of.ensures c.requires.top c.index.ensures c.in-Some.is in
     low_of c.args.schematic.now c.in-Some.right_top (partner_there _ _ _ _ _ _ tops)
 
-pub both_sides-requires-clause-left_marked : goal.both_sides-requires-clause-left_marked
-both_sides-requires-clause-left_marked g c =
-    lefts_marked
-    (pairs_found c.args.layout.now c.args.schematic.now c.in_ok-of.ensures c.requires.top c.index.ensures c.in-Some.is
+pub both_sides-requires-clause-layout : goal.both_sides-requires-clause-layout
+both_sides-requires-clause-layout g c =
+    let found = pairs_found c.args.layout.now c.args.schematic.now c.in_ok-of.ensures c.requires.top c.index.ensures c.in-Some.is
     c.in_ok-below.ensures.left c.in_ok-below.ensures.left_reached c.in_ok-below.ensures.right c.in_ok-below.ensures.right_reached
-    c.deref.ensures.value c.in_ok-pairs.ensures c.deref-2.ensures.value c.deref-3.ensures.value)
+    c.deref.ensures.value c.in_ok-pairs.ensures c.deref-2.ensures.value c.deref-3.ensures.value in
+    record {
+      netlist = c.requires.layout;
+      tables = c.in_ok-below.ensures.left;
+      marked = lefts_marked found;
+      apart = lefts_apart found;
+    }
 
-pub both_sides-requires-clause-left_apart : goal.both_sides-requires-clause-left_apart
-both_sides-requires-clause-left_apart g c =
-    lefts_apart
-    (pairs_found c.args.layout.now c.args.schematic.now c.in_ok-of.ensures c.requires.top c.index.ensures c.in-Some.is
+pub both_sides-requires-clause-schematic : goal.both_sides-requires-clause-schematic
+both_sides-requires-clause-schematic g c =
+    let found = pairs_found c.args.layout.now c.args.schematic.now c.in_ok-of.ensures c.requires.top c.index.ensures c.in-Some.is
     c.in_ok-below.ensures.left c.in_ok-below.ensures.left_reached c.in_ok-below.ensures.right c.in_ok-below.ensures.right_reached
-    c.deref.ensures.value c.in_ok-pairs.ensures c.deref-2.ensures.value c.deref-3.ensures.value)
-
-pub both_sides-requires-clause-right_marked : goal.both_sides-requires-clause-right_marked
-both_sides-requires-clause-right_marked g c =
-    rights_marked
-    (pairs_found c.args.layout.now c.args.schematic.now c.in_ok-of.ensures c.requires.top c.index.ensures c.in-Some.is
-    c.in_ok-below.ensures.left c.in_ok-below.ensures.left_reached c.in_ok-below.ensures.right c.in_ok-below.ensures.right_reached
-    c.deref.ensures.value c.in_ok-pairs.ensures c.deref-2.ensures.value c.deref-3.ensures.value)
-
-pub both_sides-requires-clause-right_apart : goal.both_sides-requires-clause-right_apart
-both_sides-requires-clause-right_apart g c =
-    rights_apart
-    (pairs_found c.args.layout.now c.args.schematic.now c.in_ok-of.ensures c.requires.top c.index.ensures c.in-Some.is
-    c.in_ok-below.ensures.left c.in_ok-below.ensures.left_reached c.in_ok-below.ensures.right c.in_ok-below.ensures.right_reached
-    c.deref.ensures.value c.in_ok-pairs.ensures c.deref-2.ensures.value c.deref-3.ensures.value)
-    c.requires.layout.names c.requires.schematic.names (lines_apart c.args.same.now c.requires.lefts c.requires.rights)
+    c.deref.ensures.value c.in_ok-pairs.ensures c.deref-2.ensures.value c.deref-3.ensures.value in
+    record {
+      netlist = c.requires.schematic;
+      tables = c.in_ok-below.ensures.right;
+      marked = rights_marked found;
+      apart = rights_apart found c.requires.layout.names c.requires.schematic.names (lines_apart c.args.same.now c.requires.lefts c.requires.rights);
+    }
 
 pub returns-clause-none : goal.returns-clause-none
 returns-clause-none g c =
