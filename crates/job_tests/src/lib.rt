@@ -3,6 +3,8 @@
 
 #[cfg(test)]
 mod board;
+#[cfg(test)]
+mod crews;
 mod gates;
 #[cfg(test)]
 mod graphs;
