@@ -54,7 +54,8 @@ module LvsWindow
 
     private
 
-    # The path of a file, at first that of the last time, else one beside the layout; nil where none is chosen.
+    # The path of a file, asked for where the last one was, at first beside the layout; nil where
+    # none is chosen.
     def ask(key, title, layout)
       application = RBA::Application.instance
       last = application.get_config("lvs-program-#{key}").to_s
