@@ -78,7 +78,19 @@ def put_shared(trials):
     trials.put("scale.cir", ".OPTION SCALE=1U\n" + trials.text("chip.cir"))
     spare = ".SUBCKT SPARE a\nM1 a a a a NMOS L=0.1U W=1U\n.ENDS\n"
     trials.put("call.cir", spare + trials.text("chip.cir").replace(".SUBCKT TOP", ".SUBCKT CHIP"))
+    trials.put("schematic", trials.text("chip.cir"))
+    os.symlink("chip.gds", trials.path("link.gds"))
     os.makedirs(trials.path("folder"), exist_ok=True)
+
+
+def try_own_output(trials):
+    """standard output behind a layout that is read: nothing is written to it"""
+    before = trials.text("chip.gds")
+    with open(trials.path("chip.gds"), "ab") as file:
+        status, _, said = trials.told("shapes", "chip.gds", "chip.lvs", "o.gds", out=file)
+    wanted = ["standard output is chip.gds, too", "name another one behind >"]
+    trials.expect("a layout that is standard output", (2, [], True),
+                  (status, missing(said, wanted), trials.text("chip.gds") == before))
 
 
 def try_all(trials):
@@ -92,5 +104,7 @@ def try_all(trials):
     with open("/dev/full", "wb") as full:
         status, _, said = trials.told("shapes", "chip.gds", "chip.lvs", "o.gds", out=full)
         trials.expect("a full standard output", (4, []), (status, missing(said, ["standard output takes no more"])))
+    try_own_output(trials)
     for words in (["help"], ["--help"], ["help", "run"], ["run", "--help"], ["version"]):
         trials.expect(" ".join(words), 0, trials.told(*words)[0])
+    trials.expect("endings", [], missing(trials.told("help", "run")[1], [".gds", ".lvs", ".cir", "chip.report.txt"]))

@@ -5,14 +5,19 @@
 ghost use Rattle.std.specs.Prelude.{◌≡◌};
 ghost use Rattle.std.specs.Process.{exit_status};
 
+mod built;
+mod hindered;
+mod rules;
 mod running;
 mod telling;
 
+use crate::hindered::hindrance_of;
 use crate::running::run_words;
-use crate::telling::{print_help, print_version, tell_after, tell_failed};
+use crate::telling::{print_help, print_version, refuse, tell_after, tell_failed, tell_outputs};
 use lvs_outside::{FileDepot, StdoutSink};
-use lvs_talk::{Heard, Watched, is_command};
+use lvs_talk::{Heard, Shown, Watched, has_progress, is_command, spelt_out};
 use std::alloc::Global;
+use std::io::IsTerminal;
 use std::process::ExitCode;
 use std::rt::Files;
 use std::sync::Wait;
@@ -81,12 +86,14 @@ fn asked_for(words: &[String]) -> Asked<'_> {
     Asked::Run(words)
 }
 
-// Runs the words, and tells people what it came to; the exit status.
-fn run_told<R>(rt: &R, alloc: Global, words: &[String]) -> u8
+// Runs the words, and tells people what it came to, and before where progress is to be shown; the
+// exit status.
+fn run_told<R>(rt: &R, alloc: Global, words: &[String], shows: bool) -> u8
 where
     R: Threads + Wait + Sync + Files + Print + Eprint + AllocGlobal,
 {
-    let mut depot = Watched::new(alloc, FileDepot::new(rt));
+    let teller = if shows { Some(rt) } else { None };
+    let mut depot = Watched::new(alloc, Shown::new(FileDepot::new(rt), teller));
     let mut out = Heard::new(alloc, StdoutSink::new(rt));
     let code = run_words(rt, alloc, words, &mut depot, &mut out);
     if code == FAILED {
@@ -97,15 +104,35 @@ where
     code
 }
 
-// Does what the words ask for; the exit status.
-fn answer<R>(rt: &R, alloc: Global, words: &[String]) -> u8
+// Runs words, or the exact words that their short form stands for, unless something keeps them from
+// being begun; the exit status.
+fn run_given<R>(rt: &R, alloc: Global, given: &[String], is_seen: bool) -> u8
+where
+    R: Threads + Wait + Sync + Files + Print + Eprint + AllocGlobal,
+{
+    let Ok(words) = spelt_out(alloc, given) else {
+        return NO_MEMORY;
+    };
+    let words = words.as_slice();
+    if let Some(hindrance) = hindrance_of(rt, alloc, words) {
+        return refuse(rt, alloc, &hindrance);
+    }
+    let code = run_told(rt, alloc, words, is_seen || has_progress(given));
+    if code != FAILED {
+        tell_outputs(rt, alloc, given, words, code);
+    }
+    code
+}
+
+// Does what the words ask for, before somebody at a terminal or not; the exit status.
+fn answer<R>(rt: &R, alloc: Global, words: &[String], is_seen: bool) -> u8
 where
     R: Threads + Wait + Sync + Files + Print + Eprint + AllocGlobal,
 {
     match asked_for(words) {
         Asked::Version => print_version(rt),
         Asked::Help(topic) => print_help(rt, alloc, topic),
-        Asked::Run(words) => run_told(rt, alloc, words),
+        Asked::Run(words) => run_given(rt, alloc, words, is_seen),
     }
 }
 
@@ -118,8 +145,9 @@ fn exit_code(code: u8) -> ExitCode
 
 fn main(rt: HostRuntime) -> ExitCode {
     let alloc = rt.alloc();
+    let is_seen = rt.stderr().is_terminal();
     match words_of(&rt, alloc) {
-        Some(words) => exit_code(answer(&rt, alloc, words.as_slice())),
+        Some(words) => exit_code(answer(&rt, alloc, words.as_slice(), is_seen)),
         None => exit_code(NO_MEMORY),
     }
 }

@@ -1,22 +1,26 @@
 //! What is printed for people: help, version, and what a run came to.
 
+use crate::built::BUILT;
+use crate::rules::refused_rules;
 use lvs_talk::{
-    Call, Ended, Texts, add_help, input_path, netlist_path, report_path, schematic_path, tell_end,
-    tell_failure,
+    Call, Ended, Hindrance, Texts, add_help, add_line, input_path, netlist_path, report_path,
+    schematic_path, tell_end, tell_failure, tell_hindrance, tell_written,
 };
 use std::alloc::Global;
 use std::fs;
 use std::rt::Files;
 
-const VERSION: &str = "lvs, text of 1 December 2026\n";
+const VERSION: &str = "lvs, text of 1 December 2026; ";
 
 // The exit statuses of what was printed, and where it couldn't be.
 const DONE: u8 = 0;
 
+const REFUSED: u8 = 2;
+
 const FAILED: u8 = 4;
 
-// The bytes of a file; none where it can't be read.
-fn bytes_of<R: Files + AllocGlobal>(rt: &R, alloc: Global, path: &str) -> Vec<u8> {
+/// The bytes of a file; none where it can't be read.
+pub fn bytes_of<R: Files + AllocGlobal>(rt: &R, alloc: Global, path: &str) -> Vec<u8> {
     match fs::metadata(rt, path) {
         Ok(found) if found.is_file() => match fs::read(rt, path) {
             Ok(bytes) => bytes,
@@ -47,7 +51,40 @@ pub fn print_help<R: Print>(rt: &R, alloc: Global, topic: &str) -> u8 {
 
 /// Prints which program this is; the exit status.
 pub fn print_version<R: Print>(rt: &R) -> u8 {
-    print_text(rt, VERSION)
+    match print_text(rt, VERSION) {
+        DONE => print_text(rt, BUILT),
+        failed => failed,
+    }
+}
+
+/// Refuses a run that something keeps from being begun: sends its line, and tells people why; the
+/// exit status.
+pub fn refuse<R: Print + Eprint>(rt: &R, alloc: Global, hindrance: &Hindrance<'_>) -> u8 {
+    let mut line = String::new(alloc);
+    let _told = add_line(alloc, &mut line, hindrance);
+    let mut text = String::new(alloc);
+    let _told = tell_hindrance(alloc, &mut text, hindrance);
+    let _sent = rt.eprint(text.as_str());
+    match print_text(rt, line.as_str()) {
+        DONE => REFUSED,
+        failed => failed,
+    }
+}
+
+/// Tells people which files a run wrote that its words don't name.
+pub fn tell_outputs<R: Eprint>(
+    rt: &R,
+    alloc: Global,
+    given: &[String],
+    words: &[String],
+    code: u8,
+) {
+    if code == REFUSED || code > FAILED {
+        return;
+    }
+    let mut text = String::new(alloc);
+    let _told = tell_written(&mut text, given, words);
+    let _sent = rt.eprint(text.as_str());
 }
 
 /// Tells people which call failed.
@@ -70,11 +107,17 @@ pub fn tell_after<R: Files + Eprint + AllocGlobal>(
     let schematic = bytes_of(rt, alloc, schematic_path(&ended));
     let report = bytes_of(rt, alloc, report_path(&ended));
     let netlist = bytes_of(rt, alloc, netlist_path(&ended));
+    let refused = if line.starts_with("refused rules ") {
+        refused_rules(alloc, input.as_slice())
+    } else {
+        Vec::new(alloc)
+    };
     let texts = Texts {
         input: input.as_slice(),
         schematic: text_of(schematic.as_slice()),
         report: text_of(report.as_slice()),
         netlist: text_of(netlist.as_slice()),
+        refused: refused.as_slice(),
     };
     let mut text = String::new(alloc);
     let _told = tell_end(alloc, &mut text, &ended, &texts);

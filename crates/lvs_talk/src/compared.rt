@@ -1,18 +1,23 @@
 //! What a comparison came to.
 
+use crate::counts::tell_counts;
 use crate::near::beside;
-use crate::netlists::{has_no_device, has_scale, last_circuit, named, part_count};
+use crate::netlists::{has_no_device, last_circuit, named, part_count, shows_no_device};
+use crate::page::tell_page;
+use crate::rule_faults::RefusedLine;
 use crate::sentence::{NONE, Sentence, say, says};
 use crate::words::{Ended, command_in, word_at};
 use std::alloc::{AllocError, Global};
 
-/// What is looked into to say how a run ended; empty where it isn't looked into.
+/// What is looked into to say how a run ended; empty where it isn't looked into. `refused` has the
+/// refused lines of rules.
 #[derive(Clone, Copy)]
 pub struct Texts<'a> {
     pub input: &'a [u8],
     pub schematic: &'a str,
     pub report: &'a str,
     pub netlist: &'a str,
+    pub refused: &'a [RefusedLine],
 }
 
 // What makes a gate bad.
@@ -98,6 +103,28 @@ fn difference_in(report: &str) -> &str {
     ""
 }
 
+// The first pair that was taken apart for other numbers of devices, or of their sizes: its words,
+// and its line of evidence below.
+fn apart_in(report: &str) -> &str {
+    for pair in report.split("\napart ") {
+        let evidence = pair.lines().nth(1).unwrap_or("");
+        let is_device = word_at(evidence, 4) == "device" && word_at(evidence, 1) == "0";
+        if word_at(pair, 2) == "differs" && is_device {
+            return pair;
+        }
+    }
+    ""
+}
+
+// A pair that was taken apart.
+fn apart_sentence(pair: &str) -> Sentence<'_> {
+    if pair.is_empty() {
+        return NONE;
+    }
+    let pattern = "  before circuits were taken apart, @ of the layout and @ differed:";
+    says(pattern, word_at(pair, 0), word_at(pair, 1), "")
+}
+
 // The first pair that doesn't match.
 fn pair_sentence(pair: &str) -> Sentence<'_> {
     if pair.is_empty() {
@@ -170,9 +197,12 @@ fn tell_difference(alloc: Global, out: &mut String, texts: &Texts<'_>) -> Result
     let pair = difference_in(texts.report);
     let evidence = pair.lines().nth(1).unwrap_or("");
     let name = name_sentence(alloc, texts, word_at(pair, 0), evidence);
+    let apart = apart_in(texts.report);
     say(out, &empty_sentence(texts.netlist))?;
     say(out, &gate_sentence(texts.report))?;
     say(out, &partner_sentence(texts))?;
+    say(out, &apart_sentence(apart))?;
+    say(out, &evidence_sentence(apart.lines().nth(1).unwrap_or("")))?;
     say(out, &pair_sentence(pair))?;
     say(out, &evidence_sentence(evidence))?;
     say(out, &name)?;
@@ -180,22 +210,12 @@ fn tell_difference(alloc: Global, out: &mut String, texts: &Texts<'_>) -> Result
 }
 
 // The first lines of a page, where one was asked for.
-fn tell_page(out: &mut String, page: &str) -> Result<(), AllocError> {
+fn tell_evidence(alloc: Global, out: &mut String, page: &str) -> Result<(), AllocError> {
     if page.is_empty() {
-        return say(
-            out,
-            &says(
-                "  --page P writes what differs by name and place",
-                "",
-                "",
-                "",
-            ),
-        );
+        let text = "  --page P writes what differs by name and place";
+        return say(out, &says(text, "", "", ""));
     }
-    for line in page.lines().skip(1).take(4) {
-        say(out, &says("  @", line, "", ""))?;
-    }
-    Ok(())
+    tell_page(alloc, out, page)
 }
 
 /// Says what a mismatch is of.
@@ -210,37 +230,41 @@ pub fn tell_mismatch(
         &says("lvs: layout and schematic don't match", "", "", ""),
     )?;
     if command_in(ended.words) == "view" {
-        tell_page(out, texts.report)
+        tell_evidence(alloc, out, texts.report)
     } else {
         tell_difference(alloc, out, texts)
     }
 }
 
-// What a match is worth.
-fn match_sentence(netlist: &str) -> Sentence<'static> {
-    if netlist.is_empty() || !has_no_device(netlist) {
-        return says("lvs: layout and schematic match", "", "", "");
+// Whether neither side has a device: by the written netlist, or by the database.
+fn is_empty_match(command: &str, texts: &Texts<'_>) -> bool {
+    match command {
+        "run" => !texts.netlist.is_empty() && has_no_device(texts.netlist),
+        "view" => !texts.report.is_empty() && shows_no_device(texts.report),
+        _ => false,
     }
-    says(
-        "lvs: warning: nothing was compared: neither side has a device",
-        "",
-        "",
-        "",
-    )
 }
+
+const EMPTY: &str = "lvs: warning: nothing was compared: neither side has a device";
+
+const EMPTY_CURE: &str =
+    "  so opens and shorts don't show; look at the layers of the rules' input lines";
 
 /// Says what a match is worth.
-pub fn tell_match(out: &mut String, texts: &Texts<'_>) -> Result<(), AllocError> {
-    say(out, &match_sentence(texts.netlist))
-}
-
-const SCALE: &str =
-    "lvs: warning: .OPTION SCALE was passed over; lvs netlist turns a schematic's sizes by it";
-
-/// Warns of what a comparison passes over in a schematic.
-pub fn warn_schematic(out: &mut String, schematic: &str) -> Result<(), AllocError> {
-    if !has_scale(schematic) {
-        return Ok(());
+pub fn tell_match(
+    alloc: Global,
+    out: &mut String,
+    ended: &Ended<'_>,
+    texts: &Texts<'_>,
+) -> Result<(), AllocError> {
+    let command = command_in(ended.words);
+    if is_empty_match(command, texts) {
+        say(out, &says(EMPTY, "", "", ""))?;
+        return say(out, &says(EMPTY_CURE, "", "", ""));
     }
-    say(out, &says(SCALE, "", "", ""))
+    say(out, &says("lvs: layout and schematic match", "", "", ""))?;
+    if command == "run" && !texts.report.is_empty() {
+        tell_counts(alloc, out, texts.report, texts.netlist)?;
+    }
+    Ok(())
 }

@@ -9,10 +9,26 @@ fn is_device(card: &str) -> bool {
     matches!(card.as_bytes(), [b'M' | b'R' | b'D', ..])
 }
 
+/// How many nets are pins of a circuit of a written netlist; 0 where there is no such circuit.
+pub fn pin_count(netlist: &str, name: &str) -> usize {
+    let head = circuit_of(netlist, name).lines().next().unwrap_or("");
+    head.split_whitespace().count().saturating_sub(1)
+}
+
 /// Whether a written netlist has no device.
 pub fn has_no_device(netlist: &str) -> bool {
     for line in netlist.lines() {
         if is_device(line) {
+            return false;
+        }
+    }
+    true
+}
+
+/// Whether a database has no device in a circuit.
+pub fn shows_no_device(database: &str) -> bool {
+    for line in database.lines() {
+        if let [b'D', b'(', b'0'..=b'9', ..] = line.trim_start().as_bytes() {
             return false;
         }
     }
@@ -27,28 +43,61 @@ pub fn last_circuit(netlist: &str) -> Option<&str> {
     Some(word_at(circuit, 0))
 }
 
-fn is_scale(line: &str) -> bool {
-    for word in line.split_whitespace() {
-        if let Some((name, _)) = word.split_once('=') {
-            if name.eq_ignore_ascii_case("SCALE") {
-                return true;
-            }
-        }
-    }
-    false
+// Whether a word of a card names the option that changes sizes.
+fn names_scale(word: &str) -> bool {
+    let name = match word.split_once('=') {
+        Some((name, _)) => name,
+        None => word,
+    };
+    name.eq_ignore_ascii_case("SCALE")
 }
 
-/// Whether an option of a schematic changes sizes, which a run reads as they stand.
-pub fn has_scale(schematic: &str) -> bool {
-    for line in schematic.lines() {
-        let card = word_at(line, 0);
-        let is_option = card.eq_ignore_ascii_case(".OPTION")
-            || card.eq_ignore_ascii_case(".OPTIONS");
-        if is_option && is_scale(line) {
-            return true;
+fn has_scale(line: &str) -> bool {
+    line.split_whitespace().any(|word| names_scale(word))
+}
+
+// What a line of a schematic is.
+#[derive(Clone, Copy, PartialEq, Eq)]
+enum Line {
+    Passed,
+    Option,
+    More,
+    End,
+    Other,
+}
+
+fn line_of(line: &str) -> Line {
+    let card = word_at(line, 0);
+    if card.is_empty() || card.starts_with('*') {
+        Line::Passed
+    } else if card.starts_with('+') {
+        Line::More
+    } else if card.eq_ignore_ascii_case(".OPTION") || card.eq_ignore_ascii_case(".OPTIONS") {
+        Line::Option
+    } else if card.eq_ignore_ascii_case(".END") {
+        Line::End
+    } else {
+        Line::Other
+    }
+}
+
+/// The number, from 1, of the first line with an option that changes a schematic's sizes, which a
+/// run reads as they stand; 0 where there is none. One pass.
+pub fn scale_line(schematic: &str) -> usize {
+    let mut is_option = false;
+    for (place, line) in schematic.lines().enumerate() {
+        match line_of(line) {
+            Line::Passed => {}
+            Line::More => {}
+            Line::Option => is_option = true,
+            Line::Other => is_option = false,
+            Line::End => return 0,
+        }
+        if is_option && line_of(line) != Line::Passed && has_scale(line) {
+            return place.saturating_add(1);
         }
     }
-    false
+    0
 }
 
 /// How many circuits a written netlist has, and one more.

@@ -1,12 +1,14 @@
 //! Why a run was refused.
 
 use crate::advice::{Advice, advice_on, call_cure, near_statement};
+use crate::compared::Texts;
+use crate::rule_faults::RefusedLine;
 use crate::sentence::{NONE, Sentence, say, says};
 use crate::slips::slip_of;
 use crate::stream::{cell_at, near_cell};
 use crate::table::command_of;
 use crate::words::{Ended, command_in, input_path, reason_of, value_of, word_at};
-use std::alloc::AllocError;
+use std::alloc::{AllocError, Global};
 
 // What a file is that begins with these bytes.
 static KINDS: [(&[u8], &str); 5] = [
@@ -151,8 +153,43 @@ fn tell_line(out: &mut String, reason: &str, bytes: &[u8]) -> Result<(), AllocEr
     say(out, &text_hint(reason, line, bytes))
 }
 
+// The refusals of a rule file behind the first one, each with its line, and with what to do where
+// that is another thing than before.
+fn tell_rules(
+    alloc: Global,
+    out: &mut String,
+    path: &str,
+    texts: &Texts<'_>,
+) -> Result<(), AllocError> {
+    let mut cure = "";
+    for (place, refused) in texts.refused.iter().enumerate() {
+        let (code, line) = (refused.code, refused.line);
+        let reason = format!(in alloc; "rules {code} line {line}")?;
+        let Some(advice) = advice_on(reason.as_str()) else {
+            continue;
+        };
+        if place > 0 {
+            let number = line.to_string(alloc)?;
+            let pattern = "lvs: @: @ (line @)";
+            say(out, &says(pattern, path, advice.what, number.as_str()))?;
+            tell_line(out, reason.as_str(), texts.input)?;
+            if cure != advice.cure {
+                say(out, &says("  @", advice.cure, "", ""))?;
+            }
+        }
+        cure = advice.cure;
+    }
+    Ok(())
+}
+
 // A refusal of an input: what it means, where, and what to do.
-fn tell_input<'a>(out: &mut String, ended: &Ended<'a>, bytes: &'a [u8]) -> Result<(), AllocError> {
+fn tell_input<'a>(
+    alloc: Global,
+    out: &mut String,
+    ended: &Ended<'a>,
+    texts: &Texts<'a>,
+) -> Result<(), AllocError> {
+    let bytes = texts.input;
     let reason = reason_of(ended.line);
     let Some(advice) = advice_on(reason).or(advice_on(netlist_why(reason))) else {
         return say(
@@ -171,7 +208,11 @@ fn tell_input<'a>(out: &mut String, ended: &Ended<'a>, bytes: &'a [u8]) -> Resul
     } else {
         tell_line(out, reason, bytes)?;
     }
-    say(out, &says("  @", advice.cure, "", ""))
+    say(out, &says("  @", advice.cure, "", ""))?;
+    if word_at(reason, 0) == "rules" {
+        tell_rules(alloc, out, input_path(ended), texts)?;
+    }
+    Ok(())
 }
 
 // Words that state no command.
@@ -183,14 +224,15 @@ fn tell_words(out: &mut String, words: &[String]) -> Result<(), AllocError> {
     }
 }
 
-/// Says why a run was refused, with the bytes of the input that its line speaks of.
+/// Says why a run was refused, with the input that its line speaks of.
 pub fn tell_refusal<'a>(
+    alloc: Global,
     out: &mut String,
     ended: &Ended<'a>,
-    bytes: &'a [u8],
+    texts: &Texts<'a>,
 ) -> Result<(), AllocError> {
     if reason_of(ended.line) == "words" {
         return tell_words(out, ended.words);
     }
-    tell_input(out, ended, bytes)
+    tell_input(alloc, out, ended, texts)
 }

@@ -58,6 +58,9 @@ fn value_slip<'a>(name: &'static str, value: &'a str) -> State<'a> {
     State::Between
 }
 
+const STRANGER: &str =
+    "lvs: `@` stands behind no option of `@`, and its ending doesn't say what it is";
+
 // Of a word that is no option of the command and no option's value.
 fn stranger<'a>(command: &'static str, word: &'a str) -> State<'a> {
     if command == "netlist" && !word.starts_with('-') {
@@ -71,7 +74,7 @@ fn stranger<'a>(command: &'static str, word: &'a str) -> State<'a> {
             name,
         ),
         None if word.starts_with('-') => says("lvs: `@` has no option `@`", command, word, ""),
-        None => says("lvs: `@` stands behind no option of `@`", word, command, ""),
+        None => says(STRANGER, word, command, ""),
     };
     State::Wrong(sentence)
 }
@@ -134,7 +137,7 @@ fn list_slip<'a>(command: &'static str, words: &'a [String]) -> Sentence<'a> {
             return slip;
         }
     }
-    says("lvs: `@` names no file to read", command, "", "")
+    NONE
 }
 
 // Of the words of a command that takes options.
@@ -222,6 +225,27 @@ fn command_slip(word: &str) -> Sentence<'_> {
     )
 }
 
+// Of the words of a command that takes options, or names files by themselves.
+fn listed_slip<'a>(command: &'static str, words: &'a [String]) -> Sentence<'a> {
+    let slip = option_slip(command, words);
+    if slip.pattern.is_empty() {
+        return says("lvs: `@` names no file to read", command, "", "");
+    }
+    slip
+}
+
+/// Whether something is wrong with the words of a run that names its files.
+pub fn has_slip(words: &[String]) -> bool {
+    let [first, more @ ..] = words else {
+        return true;
+    };
+    match command_of(first.as_str()) {
+        None => true,
+        Some(command) if command.name == "shapes" => more.len() != 3,
+        Some(command) => !option_slip(command.name, more).pattern.is_empty(),
+    }
+}
+
 /// What is wrong with words that were refused. A pass over the words for each option.
 pub fn slip_of(words: &[String]) -> Sentence<'_> {
     let [first, more @ ..] = words else {
@@ -236,6 +260,6 @@ pub fn slip_of(words: &[String]) -> Sentence<'_> {
         None => command_slip(first.as_str()),
         Some(command) if command.name == "shapes" => shapes_slip(more),
         Some(command) if command.name == "make" => make_slip(more),
-        Some(command) => option_slip(command.name, more),
+        Some(command) => listed_slip(command.name, more),
     }
 }

@@ -2,9 +2,11 @@
 
 use crate::near::{beside, is_near};
 
-/// A command: its name, the words behind it, and what it is for.
+/// A command: its name, its short form (nothing where it has none), its exact words, and what it is
+/// for.
 pub struct Command {
     pub name: &'static str,
+    pub short: &'static str,
     pub form: &'static str,
     pub text: &'static str,
 }
@@ -22,49 +24,57 @@ pub struct Choice {
 pub static COMMANDS: [Command; 8] = [
     Command {
         name: "run",
+        short: "run chip.lvs chip.gds chip.cir",
         form: "run --layout P --rules P --schematic P --shapes P --netlist P --report P \
                [--top NAME] [--workers N]",
         text: "compares a layout with its schematic, and writes shapes, netlist and report",
     },
     Command {
         name: "view",
+        short: "view chip.lvs chip.gds chip.cir",
         form: "view --layout P --rules P --schematic P --database P [--page P] \
                [--top NAME] [--workers N]",
         text: "compares them for KLayout's netlist browser; the page says in words what differs",
     },
     Command {
         name: "extract",
+        short: "extract chip.lvs chip.gds",
         form: "extract --layout P --rules P --shapes P --netlist P [--top NAME] [--workers N]",
         text: "writes the rules' layers, and the layout's netlist",
     },
     Command {
         name: "shapes",
+        short: "",
         form: "shapes LAYOUT RULES SHAPES",
         text: "writes the rules' layers as GDSII",
     },
     Command {
         name: "netlist",
+        short: "",
         form: "netlist IN.. --out P [--top NAME] [--title] [--drop-capacitors] [--drop-resistors]",
         text: "turns netlists as netlisters write them into a schematic that run reads",
     },
     Command {
         name: "make",
+        short: "",
         form: "make N SEED WORKERS PREFIX",
         text: "writes a chip of N inverters to try run on, and compares it",
     },
     Command {
         name: "help",
+        short: "",
         form: "help [COMMAND]",
         text: "lists the commands, or the words of one",
     },
     Command {
         name: "version",
+        short: "",
         form: "version",
         text: "says which program this is",
     },
 ];
 
-pub static CHOICES: [Choice; 14] = [
+pub static CHOICES: [Choice; 15] = [
     Choice {
         name: "--layout",
         value: "P",
@@ -143,6 +153,13 @@ pub static CHOICES: [Choice; 14] = [
         text: "threads, 1 to 64; no byte depends on it",
     },
     Choice {
+        name: "--progress",
+        value: "",
+        takers: "run view extract shapes netlist",
+        needers: "",
+        text: "tells what is read and written, as it is told on a terminal",
+    },
+    Choice {
         name: "--title",
         value: "",
         takers: "netlist",
@@ -165,6 +182,36 @@ pub static CHOICES: [Choice; 14] = [
     },
 ];
 
+/// The inputs that a path's ending tells, in the order of the short form.
+pub static INPUTS: [&str; 3] = ["--rules", "--layout", "--schematic"];
+
+/// What a file is by its path's ending, letters folded.
+pub static ENDINGS: [(&str, &str); 13] = [
+    ("lvs", "--rules"),
+    ("rules", "--rules"),
+    ("deck", "--rules"),
+    ("gds", "--layout"),
+    ("gds2", "--layout"),
+    ("gdsii", "--layout"),
+    ("cir", "--schematic"),
+    ("ckt", "--schematic"),
+    ("sp", "--schematic"),
+    ("spi", "--schematic"),
+    ("spice", "--schematic"),
+    ("net", "--schematic"),
+    ("cdl", "--schematic"),
+];
+
+/// The options of files that are written, and how the paths end that the short form gives them.
+pub static WRITTEN: [(&str, &str); 6] = [
+    ("--shapes", ".shapes.gds"),
+    ("--netlist", ".netlist.cir"),
+    ("--report", ".report.txt"),
+    ("--database", ".lvsdb"),
+    ("--page", ".page.txt"),
+    ("--out", ""),
+];
+
 // Words that stand for an option in other programs.
 static OTHERS: [(&str, &str); 8] = [
     ("--threads", "--workers"),
@@ -185,6 +232,11 @@ pub fn is_listed(names: &str, command: &str) -> bool {
         }
     }
     false
+}
+
+/// Whether a command takes an option of this name.
+pub fn takes(command: &str, name: &str) -> bool {
+    choice_of(command, name).is_some()
 }
 
 /// The command of this name.

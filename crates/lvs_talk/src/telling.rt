@@ -1,6 +1,6 @@
 //! What a run came to, in sentences.
 
-use crate::compared::{Texts, tell_match, tell_mismatch, warn_schematic};
+use crate::compared::{Texts, tell_match, tell_mismatch};
 use crate::refusals::tell_refusal;
 use crate::sentence::{say, says};
 use crate::watched::Call;
@@ -67,9 +67,8 @@ fn tell_compared(
     ended: &Ended<'_>,
     texts: &Texts<'_>,
 ) -> Result<(), AllocError> {
-    warn_schematic(out, texts.schematic)?;
     if ended.code == 0 {
-        tell_match(out, texts)
+        tell_match(alloc, out, ended, texts)
     } else {
         tell_mismatch(alloc, out, ended, texts)
     }
@@ -83,7 +82,7 @@ pub fn tell_end<'a>(
     texts: &Texts<'a>,
 ) -> Result<(), AllocError> {
     if ended.code == 2 {
-        return tell_refusal(out, ended, texts.input);
+        return tell_refusal(alloc, out, ended, texts);
     }
     if ended.code <= 1 && compares(command_in(ended.words)) {
         return tell_compared(alloc, out, ended, texts);

@@ -89,31 +89,31 @@ pub fn input_path<'a>(ended: &Ended<'a>) -> &'a str {
     }
 }
 
-/// Whether the schematic is looked into: after a comparison.
+/// Whether the schematic is looked into: after a mismatch.
 pub fn schematic_path<'a>(ended: &Ended<'a>) -> &'a str {
     match ended.code {
-        0 | 1 => value_of(ended.words, "--schematic"),
+        1 => value_of(ended.words, "--schematic"),
         _ => "",
     }
 }
 
-/// Which evidence is looked into: after a mismatch the report, or the page.
+/// Which evidence is looked into: after a comparison the report, or after a mismatch the page.
 pub fn report_path<'a>(ended: &Ended<'a>) -> &'a str {
-    if ended.code != 1 {
+    if ended.code > 1 {
         return "";
     }
-    if command_in(ended.words) == "view" {
-        return value_of(ended.words, "--page");
+    match command_in(ended.words) {
+        "run" => value_of(ended.words, "--report"),
+        "view" if ended.code == 1 => value_of(ended.words, "--page"),
+        "view" => value_of(ended.words, "--database"),
+        _ => "",
     }
-    value_of(ended.words, "--report")
 }
 
-/// Which netlist is looked into: after a mismatch the one that was written, and where it has one
-/// circuit also after a match.
+/// Which netlist is looked into: after a comparison the one that was written.
 pub fn netlist_path<'a>(ended: &Ended<'a>) -> &'a str {
-    let is_small = ended.code == 0 && ended.line.contains(" circuits 1 ");
-    if is_small || ended.code == 1 {
-        return value_of(ended.words, "--netlist");
+    if ended.code > 1 || command_in(ended.words) != "run" {
+        return "";
     }
-    ""
+    value_of(ended.words, "--netlist")
 }
