@@ -402,7 +402,7 @@ static CALLS: [(&str, &str); 18] = [
 ];
 
 // The words that statements begin with.
-static STATEMENTS: [&str; 18] = [
+static STATEMENTS: [&str; 19] = [
     "input",
     "labels",
     "polygon_layer",
@@ -412,6 +412,7 @@ static STATEMENTS: [&str; 18] = [
     "connect_global",
     "extract_devices",
     "same_circuits",
+    "keep_covered",
     "flatten_unmatched",
     "same_pins",
     "combine_devices",
