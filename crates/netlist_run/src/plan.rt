@@ -82,6 +82,8 @@ fn settled(
         names,
         values,
         scale,
+        listed,
+        devices,
     } = params;
     let Circuits {
         names: circuits,
@@ -98,6 +100,8 @@ fn settled(
         capacitors: leaving.capacitors,
         resistors: leaving.resistors,
         scale,
+        listed,
+        devices,
     };
     Ok(Plan { settings, is_found })
 }

@@ -1,6 +1,7 @@
 //! What is written of cards and of sizes, and how it is read.
 
 ghost use Rattle.netlist_turn.specs.CardLaw.{CardTextLaw, CardTokensLaw};
+ghost use Rattle.netlist_turn.specs.DeviceLaw.{DeviceReadLaw, DeviceTextLaw};
 ghost use Rattle.netlist_turn.specs.ScaleLaw.{ProductLaw, WrittenSizeLaw};
 
 /// A size by the scale is exactly the product, and what is written of it is read as that size.
@@ -14,4 +15,12 @@ pub fn scale_laws()
 pub fn card_laws()
     ensures text { CardTextLaw }
     ensures tokens { CardTokensLaw }
+{}
+
+/// The line that is written of a call of a listed name is the kind's letter, the call's first word,
+/// its nets by the ports, the class, and the parameters by the keys; and it is read as the device
+/// of the kind with just these.
+pub fn device_laws()
+    ensures text { DeviceTextLaw }
+    ensures read { DeviceReadLaw }
 {}
