@@ -11,8 +11,10 @@ ghost use Rattle.netlist_run.specs.Defined.{nothing, params_or, params_seen, Say
 ghost use Rattle.netlist_run.specs.Defined.{is_scale, value_in, with_card, with_param, with_params};
 ghost use Rattle.netlist_run.specs.Defined.{listed_or, with_listed, with_scale, with_scales};
 
-use netlist_turn::{Device, TurnFault, device_of, folded, is_list_word, is_option, is_param_word};
-use netlist_turn::{is_text, scale_of, unquoted};
+use netlist_turn::{
+    Device, TurnFault, device_of, folded, is_list_word, is_option, is_param_word, is_text,
+    scale_of, unquoted,
+};
 use spice_cards::{Param, Token, read_params, read_words};
 use std::alloc::{AllocError, Global};
 use text_table::TextTable;

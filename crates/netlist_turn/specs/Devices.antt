@@ -1,7 +1,8 @@
 -- Devices that calls say: the cards of a list, and what the card of a call of a listed name is.
-use Rattle.std.specs.Prelude.{ℕ, ◌+◌, ◌-◌, ◌==◌, ◌&&◌, ◌||◌, not, nat_lt, Bool, true, false}
+use Rattle.std.specs.Prelude.{ℕ, ◌+◌, ◌-◌, ◌==◌, ◌&&◌, ◌||◌, nat_lt, Bool, true, false}
 use Rattle.std.specs.Prelude.{List, [], ◌∷◌, ◌++◌, length, map, slice_index_or}
 use Rattle.std.specs.Prelude.{Option, Some, None, codes, if◌then◌else◌}
+use Rattle.std.specs.Char.{is_ascii_digit}
 use Rattle.std.specs.List.{list_any, list_all}
 use Rattle.net_names.specs.Folding.{folded_bytes}
 use Rattle.plain_netlist.specs.declared.kinds.DeviceKind.{DeviceKind}
@@ -9,6 +10,7 @@ use Rattle.plain_netlist.specs.declared.kinds.DeviceKind.TheVariants.{Mos4, Resi
 use Rattle.spice_cards.specs.Parts.{Param}
 use Rattle.spice_rows.specs.Kinds.{first_key, second_key}
 use Rattle.spice_rows.specs.Names.{is_text}
+use Rattle.netlist_turn.specs.Words.{is_none}
 
 -- a listed name: its kind, none where its cards are left out; which net of a call each terminal is
 -- on, in the order of a card of the kind; and which keys stand for which parameters of a call
@@ -39,8 +41,7 @@ place_in (p ∷ ports) k c = if is_text (c ∷ []) p then k else place_in ports 
 
 -- the k-th of all, where none is named
 abbrev pub place_at : List (List ℕ) → ℕ → ℕ → ℕ
-place_at [] k c = k
-place_at (p ∷ ports) k c = place_in (p ∷ ports) 0 c
+place_at ports k c = if is_none ports then k else place_in ports 0 c
 
 abbrev pub places_from : List (List ℕ) → ℕ → List ℕ → List ℕ
 places_from ports k [] = []
@@ -48,10 +49,9 @@ places_from ports k (c ∷ cs) = place_at ports k c ∷ places_from ports (k + 1
 
 -- no ports, or each once
 abbrev pub are_ports : List (List ℕ) → List ℕ → Bool
-are_ports [] places = true
-are_ports (p ∷ ports) places =
-    length (p ∷ ports) == length places
-    && list_all (λ k. nat_lt k (length (p ∷ ports))) places
+are_ports ports places =
+    is_none ports
+    || (length ports == length places && list_all (λ k. nat_lt k (length ports)) places)
 
 -- a key that a card of the kind has
 abbrev pub is_written : DeviceKind → List ℕ → Bool
@@ -123,7 +123,7 @@ said_params kind keys (p ∷ ps) =
 -- a digit or `.` begins it: a value, not a parameter
 abbrev pub is_fixed : List ℕ → Bool
 is_fixed [] = false
-is_fixed (b ∷ bytes) = b == 0x2E || (not (nat_lt b 0x30) && nat_lt b 0x3A)
+is_fixed (b ∷ bytes) = b == 0x2E || is_ascii_digit b
 
 -- the keys whose value the list says
 abbrev pub fixed_params : DeviceKind → List Param → List Param

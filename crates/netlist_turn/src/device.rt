@@ -62,7 +62,7 @@ fn is_fixed(name: &[u8]) -> bool
     ensures { result ≡ is_fixed name.now }
 {
     match name {
-        [b, ..] => *b == b'.' || *b >= b'0' && *b <= b'9',
+        [b, ..] => *b == b'.' || b.is_ascii_digit(),
         [] => false,
     }
 }
@@ -142,13 +142,18 @@ fn class_of<'a>(keys: &'a [Key], name: &'a [u8]) -> &'a [u8]
 }
 
 // The word of a place, or an empty one.
+#[tactic(auto, using(crate::proofs::DeviceLemmas::word_there, crate::proofs::DeviceLemmas::word_past))]
 fn word_at<'a>(words: &[&'a [u8]], k: usize) -> &'a [u8]
     ensures { result.now ≡ slice_index_or (words_seen words.now) k [] }
 {
-    if k < words.len() { words[k] } else { b"" }
+    match words.get(k) {
+        None => b"",
+        Some(word) => *word,
+    }
 }
 
 /// The name that a call's words call.
+#[tactic(auto, using(crate::proofs::DeviceLemmas::words_long))]
 pub fn called_name<'a>(words: &[&'a [u8]]) -> &'a [u8]
     ensures { result.now ≡ called_name (words_seen words.now) }
 {

@@ -17,8 +17,9 @@ ghost use Rattle.netlist_turn.specs.Seen.{seen, SaysFault};
 ghost use Rattle.netlist_turn.specs.Turning.{device_by, device_taken, is_area_scaled};
 ghost use Rattle.netlist_turn.specs.declared.rows.Row.TheVariants.{Call};
 
-use crate::device::{Device, Key, called_name, device_params, device_words, is_written, key_of};
-use crate::device::{stands_for};
+use crate::device::{
+    Device, Key, called_name, device_params, device_words, is_written, key_of, stands_for,
+};
 use crate::fault::TurnFault;
 use crate::made::{Head, Kind, Turned};
 use crate::rows::{Row, left_out};
@@ -156,11 +157,7 @@ fn is_area_scaled(settings: &Settings, kind: DeviceKind) -> bool
     matches!(kind, DeviceKind::Diode) && settings.scale.is_some()
 }
 
-fn tell_words<'a>(
-    made: &mut Turned<'a>,
-    line: u64,
-    words: &[&'a [u8]],
-) -> Result<(), AllocError>
+fn tell_words<'a>(made: &mut Turned<'a>, line: u64, words: &[&'a [u8]]) -> Result<(), AllocError>
     ensures { OnOk result
         (seen made.new ≡ words_told (seen made.old) line (words_seen words.now)) }
 {
@@ -246,6 +243,7 @@ fn push_device<'a>(
 }
 
 // Takes a call of a device of this kind.
+#[tactic(auto, using(crate::proofs::DeviceLemmas::words_long))]
 fn take_kind<'a>(
     alloc: Global,
     settings: &'a Settings,

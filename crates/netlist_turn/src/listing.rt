@@ -61,14 +61,14 @@ fn place_in(ports: &[&[u8]], letter: u8) -> usize
 fn place_at(ports: &[&[u8]], k: usize, letter: u8) -> usize
     ensures { result ≡ place_at (words_seen ports.now) k letter }
 {
-    if ports.is_empty() { k } else { place_in(ports, letter) }
+    if ports.is_empty() {
+        k
+    } else {
+        place_in(ports, letter)
+    }
 }
 
-fn places_of(
-    alloc: Global,
-    ports: &[&[u8]],
-    letters: &[u8],
-) -> Result<Vec<usize>, AllocError>
+fn places_of(alloc: Global, ports: &[&[u8]], letters: &[u8]) -> Result<Vec<usize>, AllocError>
     ensures { IfOk result (λ ks. ks.items ≡ places_from (words_seen ports.now) 0 letters.now) }
 {
     let mut places = Vec::new(alloc);
@@ -88,6 +88,7 @@ fn are_below(places: &[usize], count: usize) -> bool
     places.iter().all(|k| *k < count)
 }
 
+#[tactic(auto, using(crate::proofs::DeviceLemmas::words_long))]
 fn are_ports(ports: &[&[u8]], places: &[usize]) -> bool
     ensures { result ≡ are_ports (words_seen ports.now) places.now }
 {
@@ -97,10 +98,7 @@ fn are_ports(ports: &[&[u8]], places: &[usize]) -> bool
 fn is_list_key(kind: DeviceKind, key: &[u8]) -> bool
     ensures { result ≡ is_list_key kind key.now }
 {
-    is_written(kind, key)
-        || is_text(key, b"CHECK")
-        || is_text(key, b"AS")
-        || is_text(key, b"NF")
+    is_written(kind, key) || is_text(key, b"CHECK") || is_text(key, b"AS") || is_text(key, b"NF")
 }
 
 fn are_list_keys(kind: DeviceKind, params: &[Param]) -> bool
@@ -198,14 +196,17 @@ fn of_kind(
 fn out(alloc: Global, ports: &[&[u8]], params: &[Param]) -> Option<Device>
     ensures { option_map device_seen result ≡ out (words_seen ports.now) (params_seen params.now) }
 {
-    if !ports.is_empty() || !params.is_empty() {
-        return None;
+    match ports {
+        [] => match params {
+            [] => Some(Device {
+                kind: None,
+                places: Vec::new(alloc),
+                keys: Vec::new(alloc),
+            }),
+            _ => None,
+        },
+        _ => None,
     }
-    Some(Device {
-        kind: None,
-        places: Vec::new(alloc),
-        keys: Vec::new(alloc),
-    })
 }
 
 /// What the words behind a listed name, and the parameters, say of it; none where they have another

@@ -168,6 +168,7 @@ fn left_of(alloc: Global, settings: &Settings, tokens: &[Token]) -> Result<bool,
 }
 
 // What a card of this row calls, where it is a listed name, and the card isn't left out.
+#[tactic(auto, using(crate::proofs::TakenLemmas::no_devices))]
 fn device_at<'a>(
     alloc: Global,
     settings: &'a Settings,
