@@ -48,7 +48,7 @@ not_read files origins m (spice.ParameterRefused line) s h says = inr (spice.Par
 not_read files origins m (spice.Value line fault) s h says = inr (spice.Value line fault, h, says)
 not_read files origins m (spice.NotClosed line) s h says = inr (spice.NotClosed line, h, says)
 
-pub not_defined : (files : List File) (j : Joined) (a : Asked) (e : TurnFault) (s : Stop) → SaysPlanFault e (defined j.text.items) → SaysTurn files j.origins.items e s → NotMade files j a s
+pub not_defined : (files : List File) (j : Joined) (a : Asked) (e : TurnFault) (s : Stop) → SaysPlanFault e (defined a.choices.scale j.text.items) → SaysTurn files j.origins.items e s → NotMade files j a s
 not_defined files j a turn.NoMemory s h says = Memory says
 not_defined files j a (turn.UnknownCard line) s h says = Defines (turn.UnknownCard line) h says
 not_defined files j a (turn.BadForm line) s h says = Defines (turn.BadForm line) h says
@@ -63,7 +63,7 @@ not_defined files j a (turn.DeviceNets line) s h says = Defines (turn.DeviceNets
 not_defined files j a (turn.OddCount line) s h says = Defines (turn.OddCount line) h says
 not_defined files j a (turn.ListedTwice line) s h says = Defines (turn.ListedTwice line) h says
 
-pub not_turned : (files : List File) (j : Joined) (a : Asked) (settings : Settings) (e : TurnFault) (s : Stop) → IsPlan j.text.items a.top a.leaving settings true
+pub not_turned : (files : List File) (j : Joined) (a : Asked) (settings : Settings) (e : TurnFault) (s : Stop) → IsPlan j.text.items a.top a.choices settings true
     → SaysTurnFault e (turned settings j.text.items) → SaysTurn files j.origins.items e s → NotMade files j a s
 not_turned files j a settings turn.NoMemory s plan h says = Memory says
 not_turned files j a settings (turn.UnknownCard line) s plan h says = Turns settings (turn.UnknownCard line) plan h says

@@ -108,16 +108,17 @@ abbrev pub defining : Defined → List Card → Result Defined TurnFault
 defining d [] = Ok d
 defining d (c ∷ cs) = and_then (with_card d c.line c.tokens) (λ next. defining next cs)
 
-abbrev pub nothing : Defined
-nothing = record { names = []; values = []; scale = None; listed = []; devices = [] }
+-- nothing but a scale, where one is asked for
+abbrev pub start : Option ℕ → Defined
+start scale = record { names = []; values = []; scale = scale; listed = []; devices = [] }
 
 abbrev pub early_or : Option ℕ → Result Defined TurnFault → Result Defined TurnFault
 early_or None rest = rest
 early_or (Some line) rest = Err (EarlyMore line)
 
--- what the cards of a text define, or the first fault of one
-abbrev pub defined : List ℕ → Result Defined TurnFault
-defined bytes = early_or (early_more bytes) (defining nothing (cards_of bytes))
+-- what the cards of a text define beside a scale that is asked for, or the first fault of one
+abbrev pub defined : Option ℕ → List ℕ → Result Defined TurnFault
+defined scale bytes = early_or (early_more bytes) (defining (start scale) (cards_of bytes))
 
 -- what the code's records are
 abbrev pub params_seen : Params → Defined

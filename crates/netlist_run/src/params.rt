@@ -7,7 +7,7 @@ ghost use Rattle.spice_cards.specs.Seen.{param_seen, params_seen as list_seen, s
 ghost use Rattle.spice_cards.specs.Seen.{words_seen};
 ghost use Rattle.spice_cards.specs.Parts.{behind_words, params_of, words_of};
 ghost use Rattle.netlist_turn.specs.DevicesSeen.{device_seen};
-ghost use Rattle.netlist_run.specs.Defined.{nothing, params_or, params_seen, SaysFault};
+ghost use Rattle.netlist_run.specs.Defined.{params_or, params_seen, SaysFault, start};
 ghost use Rattle.netlist_run.specs.Defined.{is_scale, value_in, with_card, with_param, with_params};
 ghost use Rattle.netlist_run.specs.Defined.{listed_or, with_listed, with_scale, with_scales};
 
@@ -30,14 +30,14 @@ pub struct Params {
     pub devices: Vec<Device>,
 }
 
-/// No names.
-pub fn none(alloc: Global) -> Params
-    ensures { params_seen result ≡ nothing }
+/// Nothing but a scale, where one is asked for.
+pub fn start(alloc: Global, scale: Option<u128>) -> Params
+    ensures { params_seen result ≡ start scale }
 {
     Params {
         names: TextTable::new(alloc),
         values: Vec::new(alloc),
-        scale: None,
+        scale,
         listed: TextTable::new(alloc),
         devices: Vec::new(alloc),
     }
