@@ -1,6 +1,6 @@
 -- Words of calls, and counts.
-use Rattle.std.proofs.Common.{◌≡◌, Bool, List, [], ◌∷◌, ℕ, zero, suc, Some, None, length, refl, ap, Bor}
-use Rattle.std.specs.Prelude.{◌&&◌, not, codes, slice_get, slice_index_or}
+use Rattle.std.proofs.Common.{◌≡◌, Bool, true, false, List, [], ◌∷◌, ℕ, zero, suc, Some, None, length, refl, ap, Bor}
+use Rattle.std.specs.Prelude.{◌&&◌, not, codes, slice_get, slice_index_or, if◌then◌else◌}
 use Rattle.std.specs.Str.{bytes_eq}
 use Rattle.spice_cards.specs.Parts.{Param}
 use Rattle.spice_cards.specs.Seen.{words_seen}
@@ -27,3 +27,9 @@ pub word_past : (ws : List (Bor (List ℕ))) (k : ℕ) → slice_get ws k ≡ No
 word_past [] k e = refl
 word_past (x ∷ ws) zero e = absurd cc
 word_past (x ∷ ws) (suc k) e = word_past ws k e
+
+-- neither the nets nor the counts are wrong
+pub none_wrong : {A : Type 0} (a b : Bool) (x y z : A) → a ≡ true → b ≡ false → z ≡ (if not a then x else if b then y else z)
+none_wrong true true x y z e f = absurd cc
+none_wrong true false x y z e f = refl
+none_wrong false b x y z e f = absurd cc

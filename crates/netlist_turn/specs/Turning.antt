@@ -106,6 +106,14 @@ plain_taken s m line first ts =
 abbrev pub is_area_scaled : Settings → DeviceKind → Bool
 is_area_scaled s kind = has_area kind && is_some s.scale
 
+-- a card of the kind, whose sizes can be written
+abbrev pub device_said : Settings → DeviceKind → Device → Made → ℕ → List ℕ → List (List ℕ)
+    → List Param → Result Made TurnFault
+device_said s kind d m line first words ps =
+    if is_area_scaled s kind then Err (Unscaled line)
+    else if has_stuck s Listed (device_params kind d.keys ps) then Err (Unscaled line)
+    else Ok (device_made s kind d m line first words ps)
+
 -- a call of a listed name: left out, or a card of the kind
 abbrev pub device_by : Settings → Device → Made → ℕ → List ℕ → List (List ℕ) → List Param
     → Option DeviceKind → Result Made TurnFault
@@ -113,9 +121,7 @@ device_by s d m line first words ps None = Ok (telling m line CardKind first)
 device_by s d m line first words ps (Some kind) =
     if not (length (kept_words Call words) == length d.places + 1) then Err (DeviceNets line)
     else if has_odd_count s d.keys ps then Err (OddCount line)
-    else if is_area_scaled s kind then Err (Unscaled line)
-    else if has_stuck s Listed (device_params kind d.keys ps) then Err (Unscaled line)
-    else Ok (device_made s kind d m line first words ps)
+    else device_said s kind d m line first words ps
 
 abbrev pub device_card : Settings → Device → Made → ℕ → List ℕ → List (List ℕ)
     → Option (List Param) → Result Made TurnFault

@@ -1,11 +1,10 @@
 //! Cards that are made of calls of listed names.
 
-ghost use Rattle.std.specs.Prelude.{◌≡◌, IfErr, IfOk, Ok, OnOk, Some};
+ghost use Rattle.std.specs.Prelude.{◌≡◌, IfErr, IfOk, Ok, OnOk, Some, codes};
 ghost use Rattle.std.specs.Option.{option_copied};
 ghost use Rattle.spice_cards.specs.Parts.{words_of};
 ghost use Rattle.spice_cards.specs.Seen.{param_seen, params_seen, tokens_seen, words_seen};
 ghost use Rattle.std.specs.List.{count_by};
-ghost use Rattle.std.specs.Prelude.{codes};
 ghost use Rattle.netlist_turn.specs.CardLaw.{kept_words};
 ghost use Rattle.netlist_turn.specs.Devices.{called_name as name_called, device_params};
 ghost use Rattle.netlist_turn.specs.Devices.{stands_for};
@@ -14,7 +13,8 @@ ghost use Rattle.netlist_turn.specs.Listed.{count_text, device_for, device_made,
 ghost use Rattle.netlist_turn.specs.Listed.{has_odd, has_odd_count, is_manifold, is_odd};
 ghost use Rattle.netlist_turn.specs.Listed.{params_told, words_told};
 ghost use Rattle.netlist_turn.specs.Seen.{seen, SaysFault};
-ghost use Rattle.netlist_turn.specs.Turning.{device_by, device_taken, is_area_scaled};
+ghost use Rattle.netlist_turn.specs.Turning.{device_by, device_said, device_taken};
+ghost use Rattle.netlist_turn.specs.Turning.{is_area_scaled};
 ghost use Rattle.netlist_turn.specs.declared.rows.Row.TheVariants.{Call};
 
 use crate::device::{
@@ -242,6 +242,42 @@ fn push_device<'a>(
     made.push_card(alloc, settings, head, &nets, said)
 }
 
+// Takes a call whose card has these parameters.
+fn take_said<'a>(
+    alloc: Global,
+    settings: &'a Settings,
+    made: &mut Turned<'a>,
+    line: u64,
+    first: &'a [u8],
+    kind: DeviceKind,
+    device: &'a Device,
+    words: &[&'a [u8]],
+    kept: &[&'a [u8]],
+    params: &[Param<'a>],
+    said: &[Param<'a>],
+) -> Result<(), TurnFault>
+    requires kept { words_seen kept.now ≡ kept_words Call (words_seen words.now) }
+    requires said { params_seen said.now
+        ≡ device_params kind (device_seen device.now).keys (params_seen params.now) }
+    ensures made { OnOk result (device_said settings.now kind (device_seen device.now)
+        (seen made.old) line first.now (words_seen words.now) (params_seen params.now)
+        ≡ Ok (seen made.new)) }
+    ensures fault { IfErr result (λ e. SaysFault e (device_said settings.now kind
+        (device_seen device.now) (seen made.old) line first.now (words_seen words.now)
+        (params_seen params.now))) }
+{
+    if is_area_scaled(settings, kind) {
+        return Err(TurnFault::Unscaled(line));
+    }
+    if has_stuck(alloc, settings, Row::Listed, said)? {
+        return Err(TurnFault::Unscaled(line));
+    }
+    push_device(
+        alloc, settings, made, line, first, kind, device, words, kept, params, said,
+    )?;
+    Ok(())
+}
+
 // Takes a call of a device of this kind.
 #[tactic(auto, using(crate::proofs::DeviceLemmas::words_long))]
 fn take_kind<'a>(
@@ -271,16 +307,9 @@ fn take_kind<'a>(
         return Err(TurnFault::OddCount(line));
     }
     let said = device_params(alloc, kind, keys, params)?;
-    if is_area_scaled(settings, kind) {
-        return Err(TurnFault::Unscaled(line));
-    }
-    if has_stuck(alloc, settings, Row::Listed, &said)? {
-        return Err(TurnFault::Unscaled(line));
-    }
-    push_device(
+    take_said(
         alloc, settings, made, line, first, kind, device, words, &kept, params, &said,
-    )?;
-    Ok(())
+    )
 }
 
 /// Takes a call of a listed name, of this first word and the tokens behind it. Linear in it.
