@@ -4,3 +4,7 @@ pub mod ScaleText
 pub mod CardText
 pub mod DeviceLemmas
 pub mod DeviceText
+pub mod PlainTokens
+pub mod KeptLines
+pub mod Quiet
+pub mod KeptCards

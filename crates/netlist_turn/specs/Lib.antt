@@ -8,4 +8,5 @@ pub mod CardLaw
 pub mod Listed
 pub mod DeviceLaw
 pub mod Turning
+pub mod KeptLaw
 pub mod Seen

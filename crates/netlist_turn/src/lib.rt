@@ -15,7 +15,7 @@ mod words;
 
 pub use device::{Device, Key};
 pub use fault::TurnFault;
-pub use laws::{card_laws, device_laws, scale_laws};
+pub use laws::{card_laws, device_laws, kept_laws, scale_laws};
 pub use listing::device_of;
 pub use made::{Kind, Told, Turned, Where};
 pub use rows::{Row, is_list_word, is_option, is_param_word, row_of};
