@@ -24,6 +24,13 @@ TURNED = [
     (f"{CALLED}X1 n A PARAMS: w=1U\n", [], ["PARAMS: 1"]),
     (CARD.replace("W=1U", "W='1U'") + "\n", [], ["quotes 1"]),
     (f".SUBCKT B a\n{CARD}\n.ENDS\n{CALLED}", ["--top", "A"], ["left out in.cir line 1 .SUBCKT"]),
+    (".DEVICE n mos\nX1 d g s b n L=0.1U W=1U\n", [], ["left out in.cir line 1 .DEVICE", "device N 1"]),
+    (".DEVICE n resistor L=len W=.5U AS=POLY\nX1 a b w n len=1U\n", [], ["device N 1"]),
+    (".DEVICE n diode A=area P=pj P=perim\nX1 a c n area=1P perim=4U\n", [], ["device N 1"]),
+    (".DEVICE n out\nX1 a b n c=1f\n", [], ["left out in.cir line 2 X1"]),
+    (".DEVICE n mos CHECK=mult\nX1 d g s b n L=0.1U W=1U mult=1 m=2\n", [], ["parameter MULT 1", "device N 1"]),
+    (f".DEVICE A out\n{CALLED}", [], ["left out in.cir line 2 .SUBCKT", "left out in.cir line 3 .ENDS"]),
+    ("M1 d g s b NMOS L=0.1 W=1\n", ["--scale", "1u"], ["scale 1.000000000U", "scaled L 1", "scaled W 1"]),
 ]
 # What is refused, and why.
 REFUSED = [
@@ -35,6 +42,12 @@ REFUSED = [
     (".INCLUDE none.cir\n", [], "refused absent none.cir"),
     (f".PARAM w=1U\n.PARAM w=2U\n{CARD}\n", [], "refused in.cir line 2 "),
     (f".PARAM w=1U\n.SUBCKT A a w=2U\n.ENDS\n", [], "refused in.cir line 2 "),
+    (".DEVICE n mos\nX1 d g s n L=0.1U W=1U\n", [], "refused in.cir line 2 a call of a device"),
+    (".DEVICE n mos\nX1 d g s b n L=0.1U\n", [], "refused in.cir line 2 schematic 51"),
+    (".DEVICE n mos CHECK=mult\nX1 d g s b n L=0.1U W=1U mult=3 m=2\n", [], "refused in.cir line 2 a number of devices"),
+    (".DEVICE n mos\n.DEVICE n out\n", [], "refused in.cir line 2 a second .DEVICE"),
+    (".DEVICE n mos d g s d\n", [], "refused in.cir line 1 the card has another form"),
+    (f".OPTION SCALE=1u\n{CARD}\n", ["--scale", "1u"], "refused in.cir line 1 a second SCALE"),
 ]
 
 

@@ -16,7 +16,7 @@ use Rattle.netlist_turn.specs.Turning.{turned}
 use Rattle.netlist_turn.specs.declared.settings.Settings.{Settings}
 use Rattle.netlist_run.specs.Sums.{told_text}
 use Rattle.netlist_run.specs.Marks.{IsPlan}
-use Rattle.netlist_run.specs.declared.plan.Leaving.{Leaving}
+use Rattle.netlist_run.specs.declared.plan.Choices.{Choices}
 use Rattle.netlist_run.specs.Ends.{AtFile, AtInput, AtLines, AtRefusal, Delivers, Ends, IsReady, IsRefused, Same, Sends, SendsStop, ShowsStop, Stopped, Words, Wrote, WrotePart}
 use Rattle.netlist_run.specs.Accepted.{IsAccepted, IsOutput, IsPrepared, IsJoined, AreLoaded, Stops, Lacks, NotRead, NotMade, Reads, NotJoined, Makes}
 use Rattle.netlist_run.specs.Words.{Asked, is_same}
@@ -27,7 +27,7 @@ use Rattle.netlist_run.specs.declared.status.Stop.{Stop}
 use Rattle.netlist_run.specs.declared.status.Stop.TheVariants as stop
 
 pub output_is : {E : Type 0} (r : Result Output E) (files : List File) (joined : Joined) (a : Asked) (settings : Settings) (made : Made)
-    → IsPlan joined.text.items a.top a.leaving settings true → turned settings joined.text.items ≡ Ok made → IfOk r (λ o. o.text.items ≡ made.text)
+    → IsPlan joined.text.items a.top a.choices settings true → turned settings joined.text.items ≡ Ok made → IfOk r (λ o. o.text.items ≡ made.text)
     → IfOk r (λ o. o.lines.items ≡ told_text a.has_title files joined.origins.items joined.comments settings.scale made.told (length made.lines)) → IfOk r (λ o. IsAccepted made.text)
     → IfOk r (λ o. IsOutput files joined a o.text.items o.lines.items)
 output_is (Ok o) files joined a settings made plan e text lines accepted = record {
@@ -120,7 +120,7 @@ pub asked_ends : (o : Option Asked) (a : Asked) (old new : Store) (before after 
 asked_ends o a old new before after t e h = subst (λ (x : Option Asked). Ends x old new before after t) e h
 
 -- the reader's refusal is one of what was made
-pub reads_of : (r : Result Output Stop) (files : List File) (joined : Joined) (a : Asked) (settings : Settings) (made : Made) → IsPlan joined.text.items a.top a.leaving settings true
+pub reads_of : (r : Result Output Stop) (files : List File) (joined : Joined) (a : Asked) (settings : Settings) (made : Made) → IsPlan joined.text.items a.top a.choices settings true
     → turned settings joined.text.items ≡ Ok made → IfErr r (NotRead files joined.origins.items made) → IfErr r (NotMade files joined a)
 reads_of (Ok o) files joined a settings made plan e h = tt
 reads_of (Err s) files joined a settings made plan e h = Reads settings made plan e h
@@ -152,6 +152,6 @@ prepared_of (Err s) file files a l h = tt
 pub loaded : (file : List ℕ → Told) (a : Asked) (files : List File) → AreFiles file files → StartsWith (paths_of files) a.inputs → AreAsked a.inputs files → AreLoaded file a files
 loaded file a files told inputs asked = record { told = told; inputs = inputs; asked = asked }
 
-pub plan_for : (bytes text : List ℕ) (o top : Option (List ℕ)) (l : Leaving) (s : Settings) (f g : Bool) → IsPlan bytes o l s f → bytes ≡ text → o ≡ top → f ≡ g → IsPlan text top l s g
+pub plan_for : (bytes text : List ℕ) (o top : Option (List ℕ)) (l : Choices) (s : Settings) (f g : Bool) → IsPlan bytes o l s f → bytes ≡ text → o ≡ top → f ≡ g → IsPlan text top l s g
 plan_for bytes text o top l s f g h e1 e2 e3 =
     subst (λ (b : Bool). IsPlan text top l s b) e3 (subst (λ (x : Option (List ℕ)). IsPlan text x l s f) e2 (subst (λ (t : List ℕ). IsPlan t o l s f) e1 h))

@@ -48,7 +48,7 @@ not_read files origins m (spice.ParameterRefused line) s h says = inr (spice.Par
 not_read files origins m (spice.Value line fault) s h says = inr (spice.Value line fault, h, says)
 not_read files origins m (spice.NotClosed line) s h says = inr (spice.NotClosed line, h, says)
 
-pub not_defined : (files : List File) (j : Joined) (a : Asked) (e : TurnFault) (s : Stop) → SaysPlanFault e (defined j.text.items) → SaysTurn files j.origins.items e s → NotMade files j a s
+pub not_defined : (files : List File) (j : Joined) (a : Asked) (e : TurnFault) (s : Stop) → SaysPlanFault e (defined a.choices.scale j.text.items) → SaysTurn files j.origins.items e s → NotMade files j a s
 not_defined files j a turn.NoMemory s h says = Memory says
 not_defined files j a (turn.UnknownCard line) s h says = Defines (turn.UnknownCard line) h says
 not_defined files j a (turn.BadForm line) s h says = Defines (turn.BadForm line) h says
@@ -59,8 +59,11 @@ not_defined files j a (turn.Resized line) s h says = Defines (turn.Resized line)
 not_defined files j a (turn.BadScale line) s h says = Defines (turn.BadScale line) h says
 not_defined files j a (turn.SecondScale line) s h says = Defines (turn.SecondScale line) h says
 not_defined files j a (turn.Unscaled line) s h says = Defines (turn.Unscaled line) h says
+not_defined files j a (turn.DeviceNets line) s h says = Defines (turn.DeviceNets line) h says
+not_defined files j a (turn.OddCount line) s h says = Defines (turn.OddCount line) h says
+not_defined files j a (turn.ListedTwice line) s h says = Defines (turn.ListedTwice line) h says
 
-pub not_turned : (files : List File) (j : Joined) (a : Asked) (settings : Settings) (e : TurnFault) (s : Stop) → IsPlan j.text.items a.top a.leaving settings true
+pub not_turned : (files : List File) (j : Joined) (a : Asked) (settings : Settings) (e : TurnFault) (s : Stop) → IsPlan j.text.items a.top a.choices settings true
     → SaysTurnFault e (turned settings j.text.items) → SaysTurn files j.origins.items e s → NotMade files j a s
 not_turned files j a settings turn.NoMemory s plan h says = Memory says
 not_turned files j a settings (turn.UnknownCard line) s plan h says = Turns settings (turn.UnknownCard line) plan h says
@@ -72,6 +75,9 @@ not_turned files j a settings (turn.Resized line) s plan h says = Turns settings
 not_turned files j a settings (turn.BadScale line) s plan h says = Turns settings (turn.BadScale line) plan h says
 not_turned files j a settings (turn.SecondScale line) s plan h says = Turns settings (turn.SecondScale line) plan h says
 not_turned files j a settings (turn.Unscaled line) s plan h says = Turns settings (turn.Unscaled line) plan h says
+not_turned files j a settings (turn.DeviceNets line) s plan h says = Turns settings (turn.DeviceNets line) plan h says
+not_turned files j a settings (turn.OddCount line) s plan h says = Turns settings (turn.OddCount line) plan h says
+not_turned files j a settings (turn.ListedTwice line) s plan h says = Turns settings (turn.ListedTwice line) plan h says
 
 pub not_joined : (files : List File) (a : Asked) (e : JoinFault) (s : Stop) → AllThereLaw → AreAsked a.inputs files → StartsWith (paths_of files) a.inputs
     → SaysJoinFault e (joined_files files (length a.inputs) a.has_title) → SaysJoin files e s → NotJoined files a s
@@ -91,6 +97,9 @@ turn_inside files origins (turn.Resized line) h = h
 turn_inside files origins (turn.BadScale line) h = h
 turn_inside files origins (turn.SecondScale line) h = h
 turn_inside files origins (turn.Unscaled line) h = h
+turn_inside files origins (turn.DeviceNets line) h = h
+turn_inside files origins (turn.OddCount line) h = h
+turn_inside files origins (turn.ListedTwice line) h = h
 
 spice_inside : (files : List File) (origins : List Origin) (lines : List ℕ) (f : SpiceFault) → SaysSpice files origins lines f stop.Outside → ⊥
 spice_inside files origins lines spice.NoMemory h = absurd cc

@@ -41,7 +41,7 @@ pub record IsOutput (files : List File) (joined : Joined) (a : Asked) (text line
     : Type 0 where
   pub settings : Settings
   pub made : Made
-  pub plan : IsPlan joined.text.items a.top a.leaving settings true
+  pub plan : IsPlan joined.text.items a.top a.choices settings true
   pub turned : turned settings joined.text.items ≡ Ok made
   pub text_is : text ≡ made.text
   pub lines_are : lines
@@ -58,15 +58,15 @@ NotRead files origins m s = (s ≡ stop.NoMemory) ⊎ ((f : SpiceFault)
 -- stops: the first card that defines a name wrongly, no circuit of the name that is asked for, the
 -- first card that can't be turned, or the first fault of what was made
 pub data NotMade (files : List File) (j : Joined) (a : Asked) (s : Stop) : Type 0 where
-  Defines : (e : TurnFault) → defined j.text.items ≡ Err e
+  Defines : (e : TurnFault) → defined a.choices.scale j.text.items ≡ Err e
       → SaysTurn files j.origins.items e s → NotMade files j a s
-  NoTop : (settings : Settings) → IsPlan j.text.items a.top a.leaving settings false
+  NoTop : (settings : Settings) → IsPlan j.text.items a.top a.choices settings false
       → Says (no_top_line a.top) s → NotMade files j a s
   Turns : (settings : Settings) (e : TurnFault)
-      → IsPlan j.text.items a.top a.leaving settings true
+      → IsPlan j.text.items a.top a.choices settings true
       → turned settings j.text.items ≡ Err e → SaysTurn files j.origins.items e s
       → NotMade files j a s
-  Reads : (settings : Settings) (m : Made) → IsPlan j.text.items a.top a.leaving settings true
+  Reads : (settings : Settings) (m : Made) → IsPlan j.text.items a.top a.choices settings true
       → turned settings j.text.items ≡ Ok m → NotRead files j.origins.items m s
       → NotMade files j a s
   Memory : s ≡ stop.NoMemory → NotMade files j a s

@@ -1,25 +1,31 @@
--- The names that `.PARAM` cards define, and their values, and the scale that an option card sets.
+-- The names that `.PARAM` cards define, and their values, the scale that an option card sets, and the
+-- devices that `.DEVICE` cards list.
 use Rattle.std.specs.Prelude.{◌≡◌, ℕ, List, [], ◌∷◌, ◌++◌, map, Option, Some, None, Result, Ok, Err}
 use Rattle.std.specs.Prelude.{codes, is_some, Bool, false, if◌then◌else◌}
 use Rattle.net_names.specs.Folding.{folded_bytes}
 use Rattle.text_table.specs.Texts.{has_text}
 use Rattle.spice_cards.specs.Cards.{Card, cards_of, early_more}
-use Rattle.spice_cards.specs.Parts.{Param, params_of}
+use Rattle.spice_cards.specs.Parts.{Param, behind_words, params_of, words_of}
 use Rattle.spice_cards.specs.Tokens.{Token, Word, Equals}
 use Rattle.spice_rows.specs.Names.{is_text}
+use Rattle.netlist_turn.specs.Devices.{Device, device_of}
+use Rattle.netlist_turn.specs.DevicesSeen.{device_seen}
 use Rattle.netlist_turn.specs.Scale.{scale_of}
 use Rattle.netlist_turn.specs.Words.{is_option, unquoted}
 use Rattle.netlist_turn.specs.declared.fault.TurnFault.{TurnFault}
 use Rattle.netlist_turn.specs.declared.fault.TurnFault.TheVariants.{BadForm, EarlyMore, Twice, NoMemory}
-use Rattle.netlist_turn.specs.declared.fault.TurnFault.TheVariants.{BadScale, SecondScale}
+use Rattle.netlist_turn.specs.declared.fault.TurnFault.TheVariants.{BadScale, ListedTwice, SecondScale}
 use Rattle.netlist_turn.specs.declared.settings.Settings.{Settings}
 use Rattle.netlist_run.specs.declared.params.Params.{Params}
 
--- names, folded, and the value of each, and the scale in 10^-15
+-- names, folded, and the value of each; the scale in 10^-15; and the names of devices, folded, and
+-- what each is
 pub record Defined : Type 0 where
   pub names : List (List ℕ)
   pub values : List (List ℕ)
   pub scale : Option ℕ
+  pub listed : List (List ℕ)
+  pub devices : List Device
 
 -- a name is defined once
 abbrev pub with_param : Defined → ℕ → Param → Result Defined TurnFault
@@ -69,11 +75,32 @@ with_scales d line (t ∷ ts) =
     if is_scale t then and_then (with_scale d line (value_in ts)) (λ next. with_scales next line ts)
     else with_scales d line ts
 
+-- a name is listed once, and what is said of it is a device
+abbrev pub listing : Defined → ℕ → List ℕ → Option Device → Result Defined TurnFault
+listing d line name None = Err (BadForm line)
+listing d line name (Some device) = Ok (record d {
+  listed = d.listed ++ folded_bytes name ∷ [];
+  devices = d.devices ++ device ∷ [];
+})
+
+abbrev pub with_listed : Defined → ℕ → List (List ℕ) → List Param → Result Defined TurnFault
+with_listed d line [] ps = Err (BadForm line)
+with_listed d line (name ∷ words) ps =
+    if has_text d.listed (folded_bytes name) then Err (ListedTwice line)
+    else listing d line name (device_of words ps)
+
+abbrev pub listed_or : Defined → ℕ → List (List ℕ) → Option (List Param)
+    → Result Defined TurnFault
+listed_or d line words None = Err (BadForm line)
+listed_or d line words (Some ps) = with_listed d line words ps
+
 abbrev pub with_card : Defined → ℕ → List Token → Result Defined TurnFault
 with_card d line [] = Ok d
 with_card d line (Equals ∷ ts) = Ok d
 with_card d line (Word first ∷ ts) =
     if is_text (codes ".PARAM") first then params_or d line (params_of ts)
+    else if is_text (codes ".DEVICE") first
+    then listed_or d line (words_of ts) (params_of (behind_words ts))
     else if is_option first then with_scales d line ts
     else Ok d
 
@@ -81,16 +108,17 @@ abbrev pub defining : Defined → List Card → Result Defined TurnFault
 defining d [] = Ok d
 defining d (c ∷ cs) = and_then (with_card d c.line c.tokens) (λ next. defining next cs)
 
-abbrev pub nothing : Defined
-nothing = record { names = []; values = []; scale = None }
+-- nothing but a scale, where one is asked for
+abbrev pub start : Option ℕ → Defined
+start scale = record { names = []; values = []; scale = scale; listed = []; devices = [] }
 
 abbrev pub early_or : Option ℕ → Result Defined TurnFault → Result Defined TurnFault
 early_or None rest = rest
 early_or (Some line) rest = Err (EarlyMore line)
 
--- what the cards of a text define, or the first fault of one
-abbrev pub defined : List ℕ → Result Defined TurnFault
-defined bytes = early_or (early_more bytes) (defining nothing (cards_of bytes))
+-- what the cards of a text define beside a scale that is asked for, or the first fault of one
+abbrev pub defined : Option ℕ → List ℕ → Result Defined TurnFault
+defined scale bytes = early_or (early_more bytes) (defining (start scale) (cards_of bytes))
 
 -- what the code's records are
 abbrev pub params_seen : Params → Defined
@@ -98,6 +126,8 @@ params_seen p = record {
   names = p.names;
   values = map (λ v. v.items) p.values.items;
   scale = p.scale;
+  listed = p.listed;
+  devices = map device_seen p.devices.items;
 }
 
 abbrev pub settings_seen : Settings → Defined
@@ -105,6 +135,8 @@ settings_seen s = record {
   names = s.names;
   values = map (λ v. v.items) s.values.items;
   scale = s.scale;
+  listed = s.listed;
+  devices = map device_seen s.devices.items;
 }
 
 -- the answer is this fault, or that there is no memory

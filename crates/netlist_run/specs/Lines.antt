@@ -41,6 +41,9 @@ turn_line (turn.Resized line) = line
 turn_line (turn.BadScale line) = line
 turn_line (turn.SecondScale line) = line
 turn_line (turn.Unscaled line) = line
+turn_line (turn.DeviceNets line) = line
+turn_line (turn.OddCount line) = line
+turn_line (turn.ListedTwice line) = line
 turn_line turn.NoMemory = 0
 
 abbrev pub turn_text : TurnFault → List ℕ
@@ -53,6 +56,10 @@ turn_text (turn.Resized line) = codes "an option that changes sizes"
 turn_text (turn.BadScale line) = codes "a SCALE that is no number"
 turn_text (turn.SecondScale line) = codes "a second SCALE"
 turn_text (turn.Unscaled line) = codes "a size that the scale doesn't turn into one"
+turn_text (turn.DeviceNets line) = codes "a call of a device with another number of nets"
+turn_text (turn.OddCount line) =
+    codes "a number of devices that is said twice, or not twice the same"
+turn_text (turn.ListedTwice line) = codes "a second .DEVICE of one name"
 turn_text turn.NoMemory = []
 
 -- the refusal of a card that can't be turned

@@ -6,7 +6,7 @@ use Rattle.call_order.specs.Order.{Calls}
 use Rattle.netlist_turn.specs.declared.settings.Settings.{Settings}
 use Rattle.netlist_run.specs.Circuits.{Circuits, circuits_of, number_of, is_begun}
 use Rattle.netlist_run.specs.Defined.{defined, settings_seen}
-use Rattle.netlist_run.specs.declared.plan.Leaving.{Leaving}
+use Rattle.netlist_run.specs.declared.plan.Choices.{Choices}
 
 -- number k is marked
 abbrev pub IsMarked : List Bool → ℕ → Type 0
@@ -25,10 +25,10 @@ AreKept c (Some top) all marks found =
     (all ≡ false) × AreReached c.calls (number_of c top) marks × (found ≡ is_begun c top)
 
 -- the settings are what a text says of names and circuits, and what is asked for
-pub record IsPlan (bytes : List ℕ) (top : Option (List ℕ)) (leaving : Leaving)
+pub record IsPlan (bytes : List ℕ) (top : Option (List ℕ)) (choices : Choices)
     (s : Settings) (found : Bool) : Type 0 where
-  pub names : defined bytes ≡ Ok (settings_seen s)
+  pub names : defined choices.scale bytes ≡ Ok (settings_seen s)
   pub circuits : s.circuits ≡ (circuits_of bytes).names
   pub kept : AreKept (circuits_of bytes) top s.all s.marks.items found
-  pub capacitors : s.capacitors ≡ leaving.capacitors
-  pub resistors : s.resistors ≡ leaving.resistors
+  pub capacitors : s.capacitors ≡ choices.capacitors
+  pub resistors : s.resistors ≡ choices.resistors

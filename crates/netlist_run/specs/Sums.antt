@@ -11,7 +11,7 @@ use Rattle.netlist_join.specs.declared.join.Origin.{Origin}
 use Rattle.netlist_turn.specs.Made.{Told}
 use Rattle.netlist_turn.specs.declared.made.Kind.{Kind}
 use Rattle.netlist_turn.specs.declared.made.Kind.TheVariants.{Card, Parameter, Slash, Params}
-use Rattle.netlist_turn.specs.declared.made.Kind.TheVariants.{Value, Quotes, Name, Size}
+use Rattle.netlist_turn.specs.declared.made.Kind.TheVariants.{Value, Quotes, Name, Size, Device}
 use Rattle.netlist_turn.specs.Scale.{micro_text}
 use Rattle.netlist_run.specs.Places.{place_text, origin_of}
 
@@ -42,6 +42,7 @@ pub record Sums : Type 0 where
   pub parameters : Tally
   pub values : Tally
   pub sizes : Tally
+  pub devices : Tally
   pub slashes : ℕ
   pub params : ℕ
   pub quotes : ℕ
@@ -57,6 +58,7 @@ with_kind files origins s t Card = record s { cards = s.cards ++ card_line files
 with_kind files origins s t Parameter = record s { parameters = seen_once s.parameters t.word }
 with_kind files origins s t Value = record s { values = seen_once s.values t.word }
 with_kind files origins s t Size = record s { sizes = seen_once s.sizes t.word }
+with_kind files origins s t Device = record s { devices = seen_once s.devices t.word }
 with_kind files origins s t Slash = record s { slashes = raised s.slashes }
 with_kind files origins s t Params = record s { params = raised s.params }
 with_kind files origins s t Quotes = record s { quotes = raised s.quotes }
@@ -76,6 +78,7 @@ no_sums = record {
   parameters = no_names;
   values = no_names;
   sizes = no_names;
+  devices = no_names;
   slashes = 0;
   params = 0;
   quotes = 0;
@@ -108,7 +111,8 @@ abbrev pub names_text : Sums → List ℕ
 names_text s =
     tally_text (codes "parameter") s.parameters.names s.parameters.counts
     ++ (tally_text (codes "value") s.values.names s.values.counts
-    ++ tally_text (codes "scaled") s.sizes.names s.sizes.counts)
+    ++ (tally_text (codes "scaled") s.sizes.names s.sizes.counts
+    ++ tally_text (codes "device") s.devices.names s.devices.counts))
 
 -- so many comments at the ends of lines, and the others
 abbrev pub counts_text : ℕ → Sums → List ℕ

@@ -12,6 +12,7 @@ seen s = record {
   parameters = tally_seen s.parameters;
   values = tally_seen s.values;
   sizes = tally_seen s.sizes;
+  devices = tally_seen s.devices;
   slashes = s.slashes;
   params = s.params;
   quotes = s.quotes;

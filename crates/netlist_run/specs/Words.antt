@@ -6,22 +6,23 @@ use Rattle.std.specs.List.{position_or_len, before_first, after_first}
 use Rattle.std.specs.Borrow.{Bor}
 use Rattle.std.specs.Option.{option_map}
 use Rattle.std.specs.Str.{bytes_eq}
-use Rattle.netlist_run.specs.declared.plan.Leaving.{Leaving}
+use Rattle.netlist_turn.specs.Scale.{scale_of}
+use Rattle.netlist_run.specs.declared.plan.Choices.{Choices}
 use Rattle.netlist_join.specs.Loaded.{has_path, has_twins}
 use Rattle.netlist_run.specs.declared.words.Command.{Command}
 use Rattle.netlist_run.specs.declared.words.Reading.{Reading}
 use Rattle.netlist_run.specs.declared.words.Flag.{Flag}
 use Rattle.netlist_run.specs.declared.words.Flag.TheVariants.{Out, Top, Title, Capacitors}
-use Rattle.netlist_run.specs.declared.words.Flag.TheVariants.{Resistors}
+use Rattle.netlist_run.specs.declared.words.Flag.TheVariants.{Resistors, Scale}
 
 -- the paths of the inputs and of the output, the circuit that is kept with what it calls, whether the
--- first line is a title, and which cards are left out
+-- first line is a title, and what is chosen
 pub record Asked : Type 0 where
   pub inputs : List (List ℕ)
   pub out : Option (List ℕ)
   pub top : Option (List ℕ)
   pub has_title : Bool
-  pub leaving : Leaving
+  pub choices : Choices
 
 -- what the words so far ask for, and the option whose value comes next
 pub record Words : Type 0 where
@@ -35,7 +36,7 @@ nothing = record {
     out = None;
     top = None;
     has_title = false;
-    leaving = record { capacitors = false; resistors = false };
+    choices = record { capacitors = false; resistors = false; scale = None };
   };
   pending = None;
 }
@@ -52,6 +53,7 @@ flag_of word =
     else if bytes_eq word (codes "--title") then Some Title
     else if bytes_eq word (codes "--drop-capacitors") then Some Capacitors
     else if bytes_eq word (codes "--drop-resistors") then Some Resistors
+    else if bytes_eq word (codes "--scale") then Some Scale
     else None
 
 abbrev pub with_out : Words → List ℕ → Option (List ℕ) → Option Words
@@ -64,10 +66,22 @@ with_top w value None =
     Some (record { asked = record w.asked { top = Some value }; pending = None })
 with_top w value (Some top) = None
 
+abbrev pub with_choices : Words → Choices → Words
+with_choices w choices = record w { asked = record w.asked { choices = choices } }
+
+abbrev pub with_scale : Words → Option ℕ → Option ℕ → Option Words
+with_scale w None old = None
+with_scale w (Some factor) (Some old) = None
+with_scale w (Some factor) None =
+    Some (record (with_choices w (record w.asked.choices { scale = Some factor })) {
+      pending = None;
+    })
+
 -- an option's value, which had none before
 abbrev pub keeping : Words → Flag → List ℕ → Option Words
 keeping w Out value = with_out w value w.asked.out
 keeping w Top value = with_top w value w.asked.top
+keeping w Scale value = with_scale w (scale_of value) w.asked.choices.scale
 keeping w flag value = None
 
 abbrev pub kept : Words → Flag → List ℕ → Option Words
@@ -77,22 +91,20 @@ kept w flag value = if is_value value then keeping w flag value else None
 abbrev pub once : Bool → Words → Option Words
 once was w = if was then None else Some w
 
-abbrev pub with_leaving : Words → Leaving → Words
-with_leaving w leaving = record w { asked = record w.asked { leaving = leaving } }
-
 -- an option alone: its value comes next, or it has none
 abbrev pub with_flag : Words → Option Flag → Option Words
 with_flag w None = None
 with_flag w (Some Out) = Some (record w { pending = Some Out })
 with_flag w (Some Top) = Some (record w { pending = Some Top })
+with_flag w (Some Scale) = Some (record w { pending = Some Scale })
 with_flag w (Some Title) =
     once w.asked.has_title (record w { asked = record w.asked { has_title = true } })
 with_flag w (Some Capacitors) =
-    once w.asked.leaving.capacitors
-    (with_leaving w (record w.asked.leaving { capacitors = true }))
+    once w.asked.choices.capacitors
+    (with_choices w (record w.asked.choices { capacitors = true }))
 with_flag w (Some Resistors) =
-    once w.asked.leaving.resistors
-    (with_leaving w (record w.asked.leaving { resistors = true }))
+    once w.asked.choices.resistors
+    (with_choices w (record w.asked.choices { resistors = true }))
 
 -- `name=value`
 abbrev pub with_parts : Words → Option Flag → List ℕ → Option Words
@@ -163,7 +175,7 @@ asked_seen c = record {
   out = option_map string_bytes c.out;
   top = option_map string_bytes c.top;
   has_title = c.has_title;
-  leaving = c.leaving;
+  choices = c.choices;
 }
 
 abbrev pub words_seen : Reading → Words

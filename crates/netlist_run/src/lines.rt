@@ -91,6 +91,9 @@ fn turn_line(fault: &TurnFault) -> u64
         TurnFault::BadScale(line) => *line,
         TurnFault::SecondScale(line) => *line,
         TurnFault::Unscaled(line) => *line,
+        TurnFault::DeviceNets(line) => *line,
+        TurnFault::OddCount(line) => *line,
+        TurnFault::ListedTwice(line) => *line,
         TurnFault::NoMemory => 0,
     }
 }
@@ -108,6 +111,11 @@ fn turn_text(fault: &TurnFault) -> &'static [u8]
         TurnFault::BadScale(_) => b"a SCALE that is no number",
         TurnFault::SecondScale(_) => b"a second SCALE",
         TurnFault::Unscaled(_) => b"a size that the scale doesn't turn into one",
+        TurnFault::DeviceNets(_) => b"a call of a device with another number of nets",
+        TurnFault::OddCount(_) => {
+            b"a number of devices that is said twice, or not twice the same"
+        }
+        TurnFault::ListedTwice(_) => b"a second .DEVICE of one name",
         TurnFault::NoMemory => b"",
     }
 }

@@ -1,34 +1,45 @@
-//! The names that `.PARAM` cards define, and their values, and the scale that an option card sets.
+//! The names that `.PARAM` cards define, and their values, the scale that an option card sets, and
+//! the devices that `.DEVICE` cards list.
 
 ghost use Rattle.std.specs.Prelude.{◌≡◌, ◌++◌, ◌∷◌, [], false, IfErr, OnOk, Ok};
 ghost use Rattle.text_table.specs.Texts.{has_text};
 ghost use Rattle.spice_cards.specs.Seen.{param_seen, params_seen as list_seen, seen, tokens_seen};
-ghost use Rattle.spice_cards.specs.Parts.{params_of};
-ghost use Rattle.netlist_run.specs.Defined.{nothing, params_or, params_seen, SaysFault};
+ghost use Rattle.spice_cards.specs.Seen.{words_seen};
+ghost use Rattle.spice_cards.specs.Parts.{behind_words, params_of, words_of};
+ghost use Rattle.netlist_turn.specs.DevicesSeen.{device_seen};
+ghost use Rattle.netlist_run.specs.Defined.{params_or, params_seen, SaysFault, start};
 ghost use Rattle.netlist_run.specs.Defined.{is_scale, value_in, with_card, with_param, with_params};
-ghost use Rattle.netlist_run.specs.Defined.{with_scale, with_scales};
+ghost use Rattle.netlist_run.specs.Defined.{listed_or, with_listed, with_scale, with_scales};
 
-use netlist_turn::{TurnFault, folded, is_option, is_param_word, is_text, scale_of, unquoted};
-use spice_cards::{Param, Token, read_params};
+use netlist_turn::{
+    Device, TurnFault, device_of, folded, is_list_word, is_option, is_param_word, is_text,
+    scale_of, unquoted,
+};
+use spice_cards::{Param, Token, read_params, read_words};
 use std::alloc::{AllocError, Global};
 use text_table::TextTable;
 
-/// Names, folded, and the value of each, and the scale in 10^-15.
+/// Names, folded, and the value of each; the scale in 10^-15; and the names of devices, folded, and
+/// what each is.
 #[derive(Drop)]
 pub struct Params {
     pub names: TextTable,
     pub values: Vec<Vec<u8>>,
     pub scale: Option<u128>,
+    pub listed: TextTable,
+    pub devices: Vec<Device>,
 }
 
-/// No names.
-pub fn none(alloc: Global) -> Params
-    ensures { params_seen result ≡ nothing }
+/// Nothing but a scale, where one is asked for.
+pub fn start(alloc: Global, scale: Option<u128>) -> Params
+    ensures { params_seen result ≡ start scale }
 {
     Params {
         names: TextTable::new(alloc),
         values: Vec::new(alloc),
-        scale: None,
+        scale,
+        listed: TextTable::new(alloc),
+        devices: Vec::new(alloc),
     }
 }
 
@@ -90,6 +101,74 @@ fn take_params(
     add_all(alloc, params, line, &found)
 }
 
+fn push_listed(
+    alloc: Global,
+    params: &mut Params,
+    name: &[u8],
+    device: Device,
+) -> Result<(), AllocError>
+    requires { has_text params.old.listed name.now ≡ false }
+    ensures { OnOk result (params_seen params.new ≡ record (params_seen params.old) {
+      listed = (params_seen params.old).listed ++ name.now ∷ [];
+      devices = (params_seen params.old).devices ++ device_seen device ∷ [];
+    }) }
+{
+    params.listed.add(alloc, name)?;
+    params.devices.push(device)?;
+    Ok(())
+}
+
+// Lists a name, which wasn't listed before.
+fn list(
+    alloc: Global,
+    params: &mut Params,
+    line: u64,
+    words: &[&[u8]],
+    all: &[Param],
+) -> Result<(), TurnFault>
+    ensures made { OnOk result (with_listed (params_seen params.old) line (words_seen words.now)
+        (list_seen all.now) ≡ Ok (params_seen params.new)) }
+    ensures fault { IfErr result (λ e. SaysFault e
+        (with_listed (params_seen params.old) line (words_seen words.now) (list_seen all.now))) }
+{
+    let [name, behind @ ..] = words else {
+        return Err(TurnFault::BadForm(line));
+    };
+    let name = folded(alloc, name)?;
+    if params.listed.contains(&name) {
+        return Err(TurnFault::ListedTwice(line));
+    }
+    match device_of(alloc, behind, all)? {
+        None => Err(TurnFault::BadForm(line)),
+        Some(device) => {
+            push_listed(alloc, params, &name, device)?;
+            Ok(())
+        }
+    }
+}
+
+fn take_listed(
+    alloc: Global,
+    params: &mut Params,
+    line: u64,
+    tokens: &[Token],
+) -> Result<(), TurnFault>
+    ensures made { OnOk result (listed_or (params_seen params.old) line
+        (words_of (tokens_seen tokens.now)) (params_of (behind_words (tokens_seen tokens.now)))
+        ≡ Ok (params_seen params.new)) }
+    ensures fault { IfErr result (λ e. SaysFault e (listed_or (params_seen params.old) line
+        (words_of (tokens_seen tokens.now))
+        (params_of (behind_words (tokens_seen tokens.now))))) }
+{
+    let mut words = Vec::new(alloc);
+    let mut found = Vec::new(alloc);
+    let rest = read_words(&mut words, tokens)?;
+    if !read_params(&mut found, rest)? {
+        return Err(TurnFault::BadForm(line));
+    }
+    list(alloc, params, line, &words, &found)
+}
+
 // Sets the scale, which wasn't set before.
 fn set_scale(params: &mut Params, line: u64, text: &[u8]) -> Result<(), TurnFault>
     ensures made { OnOk result (with_scale (params_seen params.old) line text.now
@@ -143,8 +222,9 @@ fn take_scales(params: &mut Params, line: u64, tokens: &[Token]) -> Result<(), T
     Ok(())
 }
 
-/// Takes a card: a `.PARAM` defines each of its parameters, which wasn't defined before; an option
-/// card may set the scale, which wasn't set before.
+/// Takes a card: a `.PARAM` defines each of its parameters, which wasn't defined before; a `.DEVICE`
+/// lists a name, which wasn't listed before; an option card may set the scale, which wasn't set
+/// before.
 pub fn take(
     alloc: Global,
     params: &mut Params,
@@ -160,6 +240,9 @@ pub fn take(
         [Token::Word(first), behind @ ..] => {
             if is_param_word(first) {
                 return take_params(alloc, params, line, behind);
+            }
+            if is_list_word(first) {
+                return take_listed(alloc, params, line, behind);
             }
             if is_option(first) {
                 return take_scales(params, line, behind);

@@ -7,17 +7,19 @@ ghost use Rattle.netlist_run.specs.Defined.{defined, params_seen, settings_seen,
 ghost use Rattle.netlist_run.specs.CircuitsSeen.{circuits_seen};
 
 use crate::circuits::Circuits;
-use crate::params::{Params, none, take};
+use crate::params::{Params, start, take};
 use crate::reach::reached;
 use netlist_turn::{Settings, TurnFault};
 use spice_cards::CardReader;
 use std::alloc::{AllocError, Global};
 
-/// What is left out, but for what isn't reached.
+/// What the words choose: whether capacitors and resistors are left out, and the scale in 10^-15 of
+/// a text that sets none.
 #[derive(Clone, Copy)]
-pub struct Leaving {
+pub struct Choices {
     pub capacitors: bool,
     pub resistors: bool,
+    pub scale: Option<u128>,
 }
 
 /// What cards are turned by, and whether the circuit that is asked for was found.
@@ -64,14 +66,14 @@ fn settled(
     params: Params,
     circuits: Circuits,
     top: Option<&[u8]>,
-    leaving: Leaving,
+    choices: Choices,
 ) -> Result<Plan, AllocError>
     ensures params { IfOk result (λ p. settings_seen p.settings ≡ params_seen params) }
     ensures circuits { IfOk result (λ p. p.settings.circuits ≡ (circuits_seen circuits).names) }
     ensures kept { IfOk result (λ p. AreKept (circuits_seen circuits) (option_copied top.entry)
         p.settings.all p.settings.marks.items p.is_found) }
-    ensures capacitors { IfOk result (λ p. p.settings.capacitors ≡ leaving.capacitors) }
-    ensures resistors { IfOk result (λ p. p.settings.resistors ≡ leaving.resistors) }
+    ensures capacitors { IfOk result (λ p. p.settings.capacitors ≡ choices.capacitors) }
+    ensures resistors { IfOk result (λ p. p.settings.resistors ≡ choices.resistors) }
 {
     let Kept {
         marks,
@@ -82,6 +84,8 @@ fn settled(
         names,
         values,
         scale,
+        listed,
+        devices,
     } = params;
     let Circuits {
         names: circuits,
@@ -95,9 +99,11 @@ fn settled(
         circuits,
         marks,
         all,
-        capacitors: leaving.capacitors,
-        resistors: leaving.resistors,
+        capacitors: choices.capacitors,
+        resistors: choices.resistors,
         scale,
+        listed,
+        devices,
     };
     Ok(Plan { settings, is_found })
 }
@@ -110,23 +116,23 @@ pub fn plan_cards(
     alloc: Global,
     bytes: &[u8],
     top: Option<&[u8]>,
-    leaving: Leaving,
+    choices: Choices,
 ) -> Result<Plan, TurnFault>
-    ensures made { IfOk result (λ p. IsPlan bytes.now (option_copied top.entry) leaving p.settings
+    ensures made { IfOk result (λ p. IsPlan bytes.now (option_copied top.entry) choices p.settings
         p.is_found) }
-    ensures fault { IfErr result (λ e. SaysFault e (defined bytes.now)) }
+    ensures fault { IfErr result (λ e. SaysFault e (defined choices.scale bytes.now)) }
 {
     let mut cards = match CardReader::new(bytes) {
         Ok(cards) => cards,
         Err(line) => return Err(TurnFault::EarlyMore(line)),
     };
-    let mut params = none(alloc);
+    let mut params = start(alloc, choices.scale);
     let mut circuits = Circuits::new(alloc);
     let mut tokens = Vec::new(alloc);
     'cards: while let Some(line) = cards.next(&mut tokens)? {
         take(alloc, &mut params, line, &tokens)?;
         circuits.take(alloc, &tokens)?;
     }
-    let plan = settled(alloc, params, circuits, top, leaving)?;
+    let plan = settled(alloc, params, circuits, top, choices)?;
     Ok(plan)
 }

@@ -137,7 +137,7 @@ fn turned_output(
     command: &Command,
     settings: &Settings,
 ) -> Result<Output, Stop>
-    requires { IsPlan joined.now.text.items (asked_seen command.now).top command.now.leaving
+    requires { IsPlan joined.now.text.items (asked_seen command.now).top command.now.choices
         settings.now true }
     ensures output { IfOk result (λ o. IsOutput files.now joined.now (asked_seen command.now)
         o.text.items o.lines.items) }
@@ -177,7 +177,7 @@ fn made(alloc: Global, files: &[File], joined: &Joined, command: &Command) -> Re
     let text = joined.text.as_slice();
     let origins = joined.origins.as_slice();
     let top = top_of(command);
-    let plan = match plan_cards(alloc, text, top, command.leaving) {
+    let plan = match plan_cards(alloc, text, top, command.choices) {
         Ok(plan) => plan,
         Err(fault) => return Err(turn_stop(alloc, files, origins, fault)),
     };

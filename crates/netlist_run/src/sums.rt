@@ -18,6 +18,7 @@ pub struct Sums {
     pub parameters: Tally,
     pub values: Tally,
     pub sizes: Tally,
+    pub devices: Tally,
     pub slashes: u64,
     pub params: u64,
     pub quotes: u64,
@@ -32,6 +33,7 @@ fn no_sums(alloc: Global) -> Sums
         parameters: no_names(alloc),
         values: no_names(alloc),
         sizes: no_names(alloc),
+        devices: no_names(alloc),
         slashes: 0,
         params: 0,
         quotes: 0,
@@ -70,6 +72,7 @@ fn take(
         Kind::Parameter => see_once(alloc, &mut sums.parameters, told.word),
         Kind::Value => see_once(alloc, &mut sums.values, told.word),
         Kind::Size => see_once(alloc, &mut sums.sizes, told.word),
+        Kind::Device => see_once(alloc, &mut sums.devices, told.word),
         Kind::Slash => {
             sums.slashes = raised(sums.slashes);
             Ok(())

@@ -82,6 +82,7 @@ fn push_sums(
     push_tally(alloc, out, b"parameter", sums.parameters)?;
     push_tally(alloc, out, b"value", sums.values)?;
     push_tally(alloc, out, b"scaled", sums.sizes)?;
+    push_tally(alloc, out, b"device", sums.devices)?;
     out.extend_from_slice(counted.as_slice())?;
     push_written(alloc, out, cards)
 }
@@ -90,7 +91,8 @@ fn push_sums(
 /// cards: `left out PATH line L title`, where there is a title; `left out PATH line L WORD` for
 /// each card that is left out; then, where there are any, `scale V` in micrometres, `parameter NAME N`
 /// for each name of parameters that are left out, `value NAME N` for each name whose value was put
-/// in, `scaled NAME N` for each name of sizes that the scale turned, `comments N`, `slashes N`,
+/// in, `scaled NAME N` for each name of sizes that the scale turned, `device NAME N` for each listed name
+/// that was called, `comments N`, `slashes N`,
 /// `PARAMS: N`, `quotes N` and `backslashes N`; and `written N cards`. Linear in the changes.
 pub fn told_lines(
     alloc: Global,

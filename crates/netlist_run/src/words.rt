@@ -5,9 +5,12 @@ ghost use Rattle.std.specs.Prelude.{is_none, map, string_bytes};
 ghost use Rattle.std.specs.Option.{option_map};
 ghost use Rattle.netlist_run.specs.Words.{AreParts, asked, asked_seen, flag_of, is_value, kept};
 ghost use Rattle.netlist_run.specs.Words.{nothing, whole, with_flag, with_input, with_option};
+ghost use Rattle.netlist_turn.specs.Scale.{scale_of};
+ghost use Rattle.netlist_run.specs.Words.{with_scale};
 ghost use Rattle.netlist_run.specs.Words.{with_out, with_top, with_word, with_words, words_seen};
 
-use crate::plan::Leaving;
+use crate::plan::Choices;
+use netlist_turn::scale_of;
 use std::alloc::{AllocError, Global};
 
 /// What the words ask for.
@@ -17,7 +20,7 @@ pub struct Command {
     pub out: Option<String>,
     pub top: Option<String>,
     pub has_title: bool,
-    pub leaving: Leaving,
+    pub choices: Choices,
 }
 
 /// An option.
@@ -28,6 +31,7 @@ pub enum Flag {
     Title,
     Capacitors,
     Resistors,
+    Scale,
 }
 
 /// What the words so far ask for, and the option whose value comes next.
@@ -50,6 +54,8 @@ fn flag_of(word: &str) -> Option<Flag>
         Some(Flag::Capacitors)
     } else if word == "--drop-resistors" {
         Some(Flag::Resistors)
+    } else if word == "--scale" {
+        Some(Flag::Scale)
     } else {
         None
     }
@@ -83,9 +89,10 @@ impl Reading {
                 out: None,
                 top: None,
                 has_title: false,
-                leaving: Leaving {
+                choices: Choices {
                     capacitors: false,
                     resistors: false,
+                    scale: None,
                 },
             },
             pending: None,
@@ -108,19 +115,23 @@ impl Reading {
                 self.pending = Some(Flag::Top);
                 true
             }
+            Some(Flag::Scale) => {
+                self.pending = Some(Flag::Scale);
+                true
+            }
             Some(Flag::Title) => {
                 let was = self.command.has_title;
                 self.command.has_title = true;
                 !was
             }
             Some(Flag::Capacitors) => {
-                let was = self.command.leaving.capacitors;
-                self.command.leaving.capacitors = true;
+                let was = self.command.choices.capacitors;
+                self.command.choices.capacitors = true;
                 !was
             }
             Some(Flag::Resistors) => {
-                let was = self.command.leaving.resistors;
-                self.command.leaving.resistors = true;
+                let was = self.command.choices.resistors;
+                self.command.choices.resistors = true;
                 !was
             }
         }
@@ -138,6 +149,7 @@ impl Reading {
         match flag {
             Flag::Out => self.keep_out(alloc, value),
             Flag::Top => self.keep_top(alloc, value),
+            Flag::Scale => Ok(self.keep_scale(value)),
             Flag::Title => Ok(false),
             Flag::Capacitors => Ok(false),
             Flag::Resistors => Ok(false),
@@ -170,6 +182,24 @@ impl Reading {
         self.command.top = Some(String::from_str(alloc, value)?);
         self.pending = None;
         Ok(true)
+    }
+
+    fn keep_scale(&mut self, value: &str) -> bool
+        ensures { MatchBool result
+            (with_scale (words_seen self.old) (scale_of value.now)
+            (words_seen self.old).asked.choices.scale ≡ Some (words_seen self.new))
+            (with_scale (words_seen self.old) (scale_of value.now)
+            (words_seen self.old).asked.choices.scale ≡ None) }
+    {
+        let Some(factor) = scale_of(value.as_bytes()) else {
+            return false;
+        };
+        if self.command.choices.scale.is_some() {
+            return false;
+        }
+        self.command.choices.scale = Some(factor);
+        self.pending = None;
+        true
     }
 
     fn push_input(&mut self, alloc: Global, word: &str) -> Result<(), AllocError>

@@ -1,5 +1,5 @@
 -- What is written of a kept card, and how it is read.
-use Rattle.std.proofs.Common.{◌≡◌, ℕ, zero, suc, ◌+◌, ◌-◌, ◌<◌, ◌≤◌, ◌==◌, Bool, true, false, List, [], ◌∷◌, ◌++◌, length, take, map, Option, Some, None, Result, Ok, Err, refl, sym, ap, subst, ◌∙◌, append_assoc, arith}
+use Rattle.std.proofs.Common.{◌≡◌, ℕ, suc, ◌+◌, ◌-◌, ◌==◌, Bool, true, false, List, [], ◌∷◌, ◌++◌, length, take, map, Option, Some, None, Result, Ok, Err, refl, sym, ap, ◌∙◌, append_assoc, arith}
 use Rattle.std.specs.Prelude.{flat_map, is_some, not, ◌&&◌, ◌||◌, if◌then◌else◌}
 use Rattle.std.specs.Global.{Vec}
 use Rattle.std.specs.List.{All}
@@ -101,7 +101,7 @@ card_text_is s row m line first words ps =
 
 -- ---- the tokens
 
-on_by : (t : Bool) (n m k : ℕ) → (n ≡ k → m ≡ k) → (if t then n + 1 else 0) ≡ suc k → (if t then m + 1 else 0) ≡ suc k
+pub on_by : (t : Bool) (n m k : ℕ) → (n ≡ k → m ≡ k) → (if t then n + 1 else 0) ≡ suc k → (if t then m + 1 else 0) ≡ suc k
 on_by true n m k f h = let e : n ≡ k = omega (arith, h) in let g = f e in omega (arith, g)
 on_by false n m k f h = absurd (omega (arith, h))
 
@@ -121,7 +121,7 @@ ends_equals escaped (b ∷ w) rest h =
     on_by (goes_on escaped b) (run (not escaped && b == 0x5C) (w ++ 0x3D ∷ [])) (run (not escaped && b == 0x5C) (w ++ 0x3D ∷ rest)) (length w)
     (λ g. ends_equals (not escaped && b == 0x5C) w rest g) h
 
-first_byte : (p q : Bool) (n k : ℕ) → (if not p && (false || not q) then n + 1 else 0) ≡ suc k → (p ≡ false) × (q ≡ false)
+pub first_byte : (p q : Bool) (n k : ℕ) → (if not p && (false || not q) then n + 1 else 0) ≡ suc k → (p ≡ false) × (q ≡ false)
 first_byte true q n k h = absurd (omega (arith, h))
 first_byte false true n k h = absurd (omega (arith, h))
 first_byte false false n k h = (refl, refl)

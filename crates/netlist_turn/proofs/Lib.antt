@@ -2,3 +2,9 @@ pub mod TakenLemmas
 pub mod SizeLemmas
 pub mod ScaleText
 pub mod CardText
+pub mod DeviceLemmas
+pub mod DeviceText
+pub mod PlainTokens
+pub mod KeptLines
+pub mod Quiet
+pub mod KeptCards

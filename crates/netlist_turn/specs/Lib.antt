@@ -1,7 +1,12 @@
 pub mod Words
 pub mod Scale
 pub mod ScaleLaw
+pub mod Devices
+pub mod DevicesSeen
 pub mod Made
-pub mod Turning
 pub mod CardLaw
+pub mod Listed
+pub mod DeviceLaw
+pub mod Turning
+pub mod KeptLaw
 pub mod Seen

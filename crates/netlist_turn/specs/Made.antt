@@ -1,6 +1,6 @@
 -- What is made of cards: the written text, the line of the card that each of its lines was, and
 -- what is told of each change.
-use Rattle.std.specs.Prelude.{ℕ, Bool, not, ◌==◌, ◌&&◌, List, [], ◌∷◌, ◌++◌, length, slice_get}
+use Rattle.std.specs.Prelude.{ℕ, Bool, not, ◌==◌, ◌&&◌, ◌||◌, List, [], ◌∷◌, ◌++◌, length, slice_get}
 use Rattle.std.specs.Prelude.{slice_index_or, false, Option, Some, None, is_some, if◌then◌else◌}
 use Rattle.std.specs.Prelude.{Result, Ok, Err}
 use Rattle.std.specs.Global.{Vec}
@@ -125,8 +125,9 @@ is_stuck s row p =
 abbrev pub has_stuck : Settings → Row → List Param → Bool
 has_stuck s row ps = list_any (is_stuck s row) ps
 
--- the circuit of this name isn't among those that are kept
+-- the circuit's name is listed, or isn't among those that are kept
 abbrev pub is_left : Settings → List (List ℕ) → Bool
 is_left s words =
-    not s.all && not (slice_index_or s.marks.items
-    (place_of s.circuits (folded_bytes (first_name words))) false)
+    has_text s.listed (folded_bytes (first_name words))
+    || (not s.all && not (slice_index_or s.marks.items
+    (place_of s.circuits (folded_bytes (first_name words))) false))

@@ -1,14 +1,21 @@
 -- What becomes of each card of a text, one after another, or the first that can't be turned.
-use Rattle.std.specs.Prelude.{ℕ, Bool, true, false, ◌&&◌, ◌||◌, not, List, [], ◌∷◌, Option, Some, None}
-use Rattle.std.specs.Prelude.{Result, Ok, Err, if◌then◌else◌}
+use Rattle.std.specs.Prelude.{ℕ, ◌+◌, ◌==◌, Bool, true, false, ◌&&◌, ◌||◌, not, List, [], ◌∷◌}
+use Rattle.std.specs.Prelude.{Option, Some, None, is_some, length, Result, Ok, Err}
+use Rattle.std.specs.Prelude.{if◌then◌else◌}
 use Rattle.spice_cards.specs.Tokens.{Token, Word, Equals}
 use Rattle.spice_cards.specs.Parts.{Param, words_of, behind_words, params_of}
 use Rattle.spice_cards.specs.Cards.{Card, cards_of, early_more}
+use Rattle.plain_netlist.specs.declared.kinds.DeviceKind.{DeviceKind}
+use Rattle.spice_rows.specs.Kinds.{has_area}
+use Rattle.netlist_turn.specs.CardLaw.{kept_words}
+use Rattle.netlist_turn.specs.Devices.{Device, called_name, device_params}
+use Rattle.netlist_turn.specs.DevicesSeen.{device_seen}
+use Rattle.netlist_turn.specs.Listed.{device_for, device_made, has_odd_count}
 use Rattle.netlist_turn.specs.Words.{changes_sizes, row_of}
 use Rattle.netlist_turn.specs.Made.{Made, telling, card_made, has_shadow, has_stuck, is_left}
 use Rattle.netlist_turn.specs.declared.rows.Row.{Row}
-use Rattle.netlist_turn.specs.declared.rows.Row.TheVariants.{Device, Call, Opening, Ending, Plain}
-use Rattle.netlist_turn.specs.declared.rows.Row.TheVariants.{Passed, Capacitor, Resistor, Unknown}
+use Rattle.netlist_turn.specs.declared.rows.Row.TheVariants.{Device as DeviceRow, Call, Opening, Ending, Plain}
+use Rattle.netlist_turn.specs.declared.rows.Row.TheVariants.{Passed, Capacitor, Resistor, Unknown, Listed}
 use Rattle.netlist_turn.specs.declared.made.Kind.TheVariants.{Card as CardKind}
 use Rattle.netlist_turn.specs.declared.made.Where.{Where}
 use Rattle.netlist_turn.specs.declared.made.Where.TheVariants.{Outside, Kept, Left}
@@ -16,7 +23,8 @@ use Rattle.netlist_turn.specs.declared.turn.Fate.{Fate}
 use Rattle.netlist_turn.specs.declared.turn.Fate.TheVariants.{Keeps, Drops, Refuses}
 use Rattle.netlist_turn.specs.declared.fault.TurnFault.{TurnFault}
 use Rattle.netlist_turn.specs.declared.fault.TurnFault.TheVariants.{UnknownCard, BadForm, Shadowed, EarlyMore, Resized}
-use Rattle.netlist_turn.specs.declared.fault.TurnFault.TheVariants.{Unscaled}
+use Rattle.netlist_turn.specs.declared.fault.TurnFault.TheVariants.{Unscaled, DeviceNets, OddCount}
+use Rattle.netlist_turn.specs.declared.device.Device.{Device as ListedDevice}
 use Rattle.netlist_turn.specs.declared.settings.Settings.{Settings}
 
 -- a card stands in a circuit that is left out, or outside all where only circuits are kept
@@ -39,7 +47,7 @@ end_fate at = Keeps
 
 -- what becomes of a card, where a circuit of its name would be left out or not
 abbrev pub fate_of : Settings → Where → Row → Bool → Fate
-fate_of s at Device left = drops_if (is_out s at) Keeps
+fate_of s at DeviceRow left = drops_if (is_out s at) Keeps
 fate_of s at Call left = drops_if (is_out s at) Keeps
 fate_of s at Opening left = open_fate at left
 fate_of s at Ending left = end_fate at
@@ -48,6 +56,7 @@ fate_of s at Passed left = Drops
 fate_of s at Capacitor left = drops_if (is_out s at || s.capacitors) Refuses
 fate_of s at Resistor left = drops_if (is_out s at || s.resistors) Refuses
 fate_of s at Unknown left = drops_if (is_out s at) Refuses
+fate_of s at Listed left = Refuses
 
 -- where the cards behind a card stand
 abbrev pub opened : Bool → Where
@@ -87,11 +96,57 @@ by_fate s row m line first behind Drops =
     else Ok (telling m line CardKind first)
 by_fate s row m line first behind Refuses = Err (UnknownCard line)
 
--- what one card more makes, of this first word and the tokens behind it
-unfoldable pub word_taken : Settings → Made → ℕ → List ℕ → List Token → Result Made TurnFault
-word_taken s m line first ts =
+-- what one card more makes, which calls no listed name, of this first word and the tokens behind it
+unfoldable pub plain_taken : Settings → Made → ℕ → List ℕ → List Token → Result Made TurnFault
+plain_taken s m line first ts =
     by_fate s (row_of first) (moved (after m.at (row_of first) (is_left s (words_of ts))) m) line
     first ts (fate_of s m.at (row_of first) (is_left s (words_of ts)))
+
+-- an area, which the scale doesn't turn
+abbrev pub is_area_scaled : Settings → DeviceKind → Bool
+is_area_scaled s kind = has_area kind && is_some s.scale
+
+-- a card of the kind, whose sizes can be written
+abbrev pub device_said : Settings → DeviceKind → Device → Made → ℕ → List ℕ → List (List ℕ)
+    → List Param → Result Made TurnFault
+device_said s kind d m line first words ps =
+    if is_area_scaled s kind then Err (Unscaled line)
+    else if has_stuck s Listed (device_params kind d.keys ps) then Err (Unscaled line)
+    else Ok (device_made s kind d m line first words ps)
+
+-- a call of a listed name: left out, or a card of the kind
+abbrev pub device_by : Settings → Device → Made → ℕ → List ℕ → List (List ℕ) → List Param
+    → Option DeviceKind → Result Made TurnFault
+device_by s d m line first words ps None = Ok (telling m line CardKind first)
+device_by s d m line first words ps (Some kind) =
+    if not (length (kept_words Call words) == length d.places + 1) then Err (DeviceNets line)
+    else if has_odd_count s d.keys ps then Err (OddCount line)
+    else device_said s kind d m line first words ps
+
+abbrev pub device_card : Settings → Device → Made → ℕ → List ℕ → List (List ℕ)
+    → Option (List Param) → Result Made TurnFault
+device_card s d m line first words None = Err (BadForm line)
+device_card s d m line first words (Some ps) = device_by s d m line first words ps d.kind
+
+abbrev pub device_taken : Settings → Device → Made → ℕ → List ℕ → List Token
+    → Result Made TurnFault
+device_taken s d m line first ts =
+    device_card s d m line first (words_of ts) (params_of (behind_words ts))
+
+-- what a card that isn't left out calls, where it is a listed name
+abbrev pub device_at : Settings → Where → Row → List Token → Option ListedDevice
+device_at s at Call ts =
+    if is_out s at then None else device_for s (called_name (kept_words Call (words_of ts)))
+device_at s at row ts = None
+
+abbrev pub by_device : Settings → Made → ℕ → List ℕ → List Token → Option ListedDevice
+    → Result Made TurnFault
+by_device s m line first ts None = plain_taken s m line first ts
+by_device s m line first ts (Some d) = device_taken s (device_seen d) m line first ts
+
+-- what one card more makes, of this first word and the tokens behind it
+abbrev pub word_taken : Settings → Made → ℕ → List ℕ → List Token → Result Made TurnFault
+word_taken s m line first ts = by_device s m line first ts (device_at s m.at (row_of first) ts)
 
 -- what one card more makes: it begins with a word
 abbrev pub card_taken : Settings → Made → ℕ → List Token → Result Made TurnFault

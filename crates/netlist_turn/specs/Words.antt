@@ -14,6 +14,7 @@ use Rattle.spice_rows.specs.Rows.{begin}
 use Rattle.netlist_turn.specs.declared.rows.Row.{Row}
 use Rattle.netlist_turn.specs.declared.rows.Row.TheVariants.{Device, Call, Opening, Ending, Plain}
 use Rattle.netlist_turn.specs.declared.rows.Row.TheVariants.{Passed, Capacitor, Resistor, Unknown}
+use Rattle.netlist_turn.specs.declared.rows.Row.TheVariants.{Listed}
 use Rattle.netlist_turn.specs.declared.made.Kind.{Kind}
 use Rattle.netlist_turn.specs.declared.made.Kind.TheVariants.{Slash, Params}
 
@@ -44,7 +45,8 @@ changes_sizes first behind = is_option first && has_size_option behind
 -- a first word of cards that say nothing of the netlist, or that were done with before
 abbrev pub is_passed_word : List ℕ → Bool
 is_passed_word w =
-    is_text (codes ".PARAM") w || is_text (codes ".INCLUDE") w || is_text (codes ".INC") w
+    is_text (codes ".PARAM") w || is_text (codes ".DEVICE") w || is_text (codes ".INCLUDE") w
+    || is_text (codes ".INC") w
     || is_text (codes ".LIB") w || is_text (codes ".ENDL") w || is_text (codes ".MODEL") w
     || is_option w || is_text (codes ".TEMP") w
     || is_text (codes ".END") w
@@ -100,9 +102,11 @@ is_kept_key has_scale Call key = is_text (codes "M") key
 is_kept_key has_scale Opening key = false
 is_kept_key has_scale row key = true
 
--- length and width of a transistor, which the scale turns
+-- length and width of a transistor, and the lengths of a listed device, which the scale turns
 abbrev pub is_size_key : Row → List ℕ → Bool
 is_size_key Device key = is_text (codes "L") key || is_text (codes "W") key
+is_size_key Listed key =
+    is_text (codes "L") key || is_text (codes "W") key || is_text (codes "P") key
 is_size_key row key = false
 
 -- two equal quotes enclose the value

@@ -27,6 +27,12 @@ pub enum TurnFault {
     SecondScale(u64),
     #[error("line {0}: a size that the scale doesn't turn into one")]
     Unscaled(u64),
+    #[error("line {0}: a call of a device with another number of nets")]
+    DeviceNets(u64),
+    #[error("line {0}: a number of devices that is said twice, or not twice the same")]
+    OddCount(u64),
+    #[error("line {0}: a second .DEVICE of one name")]
+    ListedTwice(u64),
     #[error("no memory")]
     NoMemory,
 }

@@ -1,6 +1,8 @@
 //! What is written of cards and of sizes, and how it is read.
 
 ghost use Rattle.netlist_turn.specs.CardLaw.{CardTextLaw, CardTokensLaw};
+ghost use Rattle.netlist_turn.specs.DeviceLaw.{DeviceReadLaw, DeviceTextLaw};
+ghost use Rattle.netlist_turn.specs.KeptLaw.{KeptCardsLaw};
 ghost use Rattle.netlist_turn.specs.ScaleLaw.{ProductLaw, WrittenSizeLaw};
 
 /// A size by the scale is exactly the product, and what is written of it is read as that size.
@@ -14,4 +16,19 @@ pub fn scale_laws()
 pub fn card_laws()
     ensures text { CardTextLaw }
     ensures tokens { CardTokensLaw }
+{}
+
+/// The line that is written of a call of a listed name is the kind's letter, the call's first word,
+/// its nets by the ports, the class, and the parameters by the keys; and it is read as the device
+/// of the kind with just these.
+pub fn device_laws()
+    ensures text { DeviceTextLaw }
+    ensures read { DeviceReadLaw }
+{}
+
+/// Of a text without a backslash, of which nothing is told but cards that say nothing of the
+/// netlist, all other cards stand in what is made, in their order, each with its tokens. No circuit
+/// and no device may be left out, and no name listed.
+pub fn kept_laws()
+    ensures { KeptCardsLaw }
 {}

@@ -28,6 +28,8 @@ pub enum Kind {
     Name,
     /// A size is turned by the scale.
     Size,
+    /// A call of a listed name is a device.
+    Device,
 }
 
 /// A change: the line of its card, what it is, and the word that stood there.
@@ -96,7 +98,8 @@ impl<'a> Turned<'a> {
         Ok(())
     }
 
-    fn write(&mut self, text: &[u8]) -> Result<(), AllocError>
+    /// Writes a text.
+    pub fn write(&mut self, text: &[u8]) -> Result<(), AllocError>
         ensures { OnOk result (seen self.new ≡ writing (seen self.old) text.now) }
     {
         self.text.extend_from_slice(text)?;

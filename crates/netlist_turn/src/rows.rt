@@ -28,6 +28,8 @@ pub enum Row {
     Ending,
     /// `.GLOBAL`
     Plain,
+    /// A card that is made of a call of a listed name.
+    Listed,
     /// A card that says nothing of the netlist, or that was done with before.
     Passed,
     Capacitor,
@@ -40,6 +42,13 @@ pub fn is_param_word(word: &[u8]) -> bool
     ensures { result ≡ is_text (codes ".PARAM") word.now }
 {
     is_text(word, b".PARAM")
+}
+
+/// Whether a card begins with `.DEVICE`.
+pub fn is_list_word(word: &[u8]) -> bool
+    ensures { result ≡ is_text (codes ".DEVICE") word.now }
+{
+    is_text(word, b".DEVICE")
 }
 
 /// Whether a card begins with `.OPTION` or `.OPTIONS`.
@@ -85,6 +94,7 @@ fn is_passed_word(word: &[u8]) -> bool
     ensures { result ≡ is_passed_word word.now }
 {
     is_param_word(word)
+        || is_list_word(word)
         || is_text(word, b".INCLUDE")
         || is_text(word, b".INC")
         || is_text(word, b".LIB")
@@ -205,6 +215,7 @@ pub fn is_size_key(row: Row, key: &[u8]) -> bool
 {
     match row {
         Row::Device => is_text(key, b"L") || is_text(key, b"W"),
+        Row::Listed => is_text(key, b"L") || is_text(key, b"W") || is_text(key, b"P"),
         _ => false,
     }
 }

@@ -7,8 +7,10 @@ ghost use Rattle.text_table.specs.Texts.{place_of};
 ghost use Rattle.std.specs.Option.{option_copied};
 ghost use Rattle.netlist_turn.specs.Made.{factor_at, has_shadow, has_stuck, is_left, is_stuck};
 ghost use Rattle.netlist_turn.specs.Made.{meant, value_for};
+ghost use Rattle.netlist_turn.specs.Listed.{device_for, text_for};
 ghost use Rattle.netlist_turn.specs.Words.{unquoted};
 
+use crate::device::Device;
 use crate::rows::{Row, is_size_key};
 use crate::scale::is_unscaled;
 use crate::words::{folded, unquoted};
@@ -18,7 +20,8 @@ use text_table::TextTable;
 
 /// What cards are turned by: the names that `.PARAM` cards define, folded, and their values; the
 /// circuits that are kept, all or those that are marked; whether capacitors and resistors are left
-/// out; and the factor of sizes in 10^-15, where the text has one.
+/// out; the factor of sizes in 10^-15, where the text has one; and the names of devices, folded,
+/// and what each is.
 #[derive(Drop)]
 pub struct Settings {
     pub names: TextTable,
@@ -29,6 +32,8 @@ pub struct Settings {
     pub capacitors: bool,
     pub resistors: bool,
     pub scale: Option<u128>,
+    pub listed: TextTable,
+    pub devices: Vec<Device>,
 }
 
 /// Whether the circuit of a card's first name is left out.
@@ -40,7 +45,7 @@ pub fn is_left(alloc: Global, settings: &Settings, words: &[&[u8]]) -> Result<bo
         [name, ..] => folded(alloc, name)?,
     };
     let mark = settings.marks.get(settings.circuits.place(&name)).copied();
-    Ok(!settings.all && !mark.unwrap_or(false))
+    Ok(settings.listed.contains(&name) || !settings.all && !mark.unwrap_or(false))
 }
 
 /// The place of a value among the names that `.PARAM` cards define, or the number of them.
@@ -133,4 +138,33 @@ pub fn has_stuck(
         rest = more;
     }
     Ok(false)
+}
+
+/// What a name is listed as. Nothing is looked up where no names are listed.
+#[tactic(auto, using(crate::proofs::TakenLemmas::no_devices))]
+pub fn device_for<'a>(
+    alloc: Global,
+    settings: &'a Settings,
+    name: &[u8],
+) -> Result<Option<&'a Device>, AllocError>
+    ensures { IfOk result (λ d. option_copied d ≡ device_for settings.now name.now) }
+{
+    if settings.devices.len() == 0 {
+        return Ok(None);
+    }
+    let name = folded(alloc, name)?;
+    Ok(settings.devices.get(settings.listed.place(&name)))
+}
+
+/// The text that a parameter's value stands for.
+pub fn text_for<'a>(
+    alloc: Global,
+    settings: &'a Settings,
+    param: &Param<'a>,
+) -> Result<&'a [u8], AllocError>
+    ensures { IfOk result (λ t. t.now ≡ text_for settings.now (param_seen param.now)) }
+{
+    let plain = unquoted(param.value);
+    let found = value_for(alloc, settings, plain)?;
+    Ok(meant(plain, found))
 }

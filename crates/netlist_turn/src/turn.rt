@@ -7,9 +7,13 @@ ghost use Rattle.netlist_turn.specs.Made.{is_left as is_left_out};
 ghost use Rattle.netlist_turn.specs.Seen.{seen, SaysFault};
 ghost use Rattle.netlist_turn.specs.Turning.{after, by_fate, card_taken, drops_if, end_fate};
 ghost use Rattle.netlist_turn.specs.Turning.{fate_of, is_opening, is_out, left_at, moved, open_fate};
-ghost use Rattle.netlist_turn.specs.Turning.{opened, turned, turning, word_taken};
+ghost use Rattle.netlist_turn.specs.Turning.{device_at, opened, plain_taken, turned, turning};
+ghost use Rattle.netlist_turn.specs.Turning.{word_taken};
+ghost use Rattle.std.specs.Option.{option_copied};
 
+use crate::device::Device;
 use crate::fault::TurnFault;
+use crate::listed::{called_device, take_device};
 use crate::made::{Head, Kind, Turned, Where};
 use crate::rows::{Row, changes_sizes, row_of};
 use crate::settings::{Settings, has_shadow, has_stuck, is_left};
@@ -74,6 +78,7 @@ fn fate_of(settings: &Settings, at: Where, row: Row, left: bool) -> Fate
         Row::Capacitor => drops_if(out || settings.capacitors, Fate::Refuses),
         Row::Resistor => drops_if(out || settings.resistors, Fate::Refuses),
         Row::Unknown => drops_if(out, Fate::Refuses),
+        Row::Listed => Fate::Refuses,
     }
 }
 
@@ -96,7 +101,7 @@ fn is_opening(row: Row) -> bool
 // Does with a card what its fate says.
 fn take_by_fate<'a>(
     alloc: Global,
-    settings: &Settings,
+    settings: &'a Settings,
     made: &mut Turned<'a>,
     head: Head<'a>,
     behind: &[Token<'a>],
@@ -162,10 +167,33 @@ fn left_of(alloc: Global, settings: &Settings, tokens: &[Token]) -> Result<bool,
     is_left(alloc, settings, &words)
 }
 
+// What a card of this row calls, where it is a listed name, and the card isn't left out.
+#[tactic(auto, using(crate::proofs::TakenLemmas::no_devices))]
+fn device_at<'a>(
+    alloc: Global,
+    settings: &'a Settings,
+    at: Where,
+    row: Row,
+    tokens: &[Token],
+) -> Result<Option<&'a Device>, AllocError>
+    ensures { IfOk result (λ d. option_copied d
+        ≡ device_at settings.now at row (tokens_seen tokens.now)) }
+{
+    match row {
+        Row::Call => {
+            if is_out(settings, at) || settings.devices.len() == 0 {
+                return Ok(None);
+            }
+            called_device(alloc, settings, tokens)
+        }
+        _ => Ok(None),
+    }
+}
+
 // Takes a card of this first word and the tokens behind it.
 fn take_word<'a>(
     alloc: Global,
-    settings: &Settings,
+    settings: &'a Settings,
     made: &mut Turned<'a>,
     line: u64,
     first: &'a [u8],
@@ -174,6 +202,26 @@ fn take_word<'a>(
     ensures made { OnOk result (word_taken settings.now (seen made.old) line first.now
         (tokens_seen behind.now) ≡ Ok (seen made.new)) }
     ensures fault { IfErr result (λ e. SaysFault e (word_taken settings.now (seen made.old) line
+        first.now (tokens_seen behind.now))) }
+{
+    match device_at(alloc, settings, made.at, row_of(first), behind)? {
+        Some(device) => take_device(alloc, settings, made, line, first, device, behind),
+        None => take_plain(alloc, settings, made, line, first, behind),
+    }
+}
+
+// Takes a card of this first word and the tokens behind it, which calls no listed name.
+fn take_plain<'a>(
+    alloc: Global,
+    settings: &'a Settings,
+    made: &mut Turned<'a>,
+    line: u64,
+    first: &'a [u8],
+    behind: &[Token<'a>],
+) -> Result<(), TurnFault>
+    ensures made { OnOk result (plain_taken settings.now (seen made.old) line first.now
+        (tokens_seen behind.now) ≡ Ok (seen made.new)) }
+    ensures fault { IfErr result (λ e. SaysFault e (plain_taken settings.now (seen made.old) line
         first.now (tokens_seen behind.now))) }
 {
     let row = row_of(first);
@@ -187,7 +235,7 @@ fn take_word<'a>(
 // Takes a card.
 fn take_card<'a>(
     alloc: Global,
-    settings: &Settings,
+    settings: &'a Settings,
     made: &mut Turned<'a>,
     line: u64,
     tokens: &[Token<'a>],
@@ -209,7 +257,7 @@ fn take_card<'a>(
 /// at a time is held beside what is made.
 pub fn turn_cards<'a>(
     alloc: Global,
-    settings: &Settings,
+    settings: &'a Settings,
     bytes: &'a [u8],
 ) -> Result<Turned<'a>, TurnFault>
     ensures made { IfOk result (λ t. turned settings.now bytes.now ≡ Ok (seen t)) }

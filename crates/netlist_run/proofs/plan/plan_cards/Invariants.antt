@@ -5,7 +5,7 @@ use Rattle.netlist_run.specs.CircuitsSeen.{circuits_seen}
 use Rattle.netlist_run.proofs.plan.plan_cards.Given as goal
 
 abbrev pub invariant-cards : goal.invariant-cards
-invariant-cards l = (defining (params_seen l.params) l.cards ≡ defined l.bytes) × (with_cards (circuits_seen l.circuits) l.cards ≡ circuits_of l.bytes)
+invariant-cards l = (defining (params_seen l.params) l.cards ≡ defined l.choices.scale l.bytes) × (with_cards (circuits_seen l.circuits) l.cards ≡ circuits_of l.bytes)
 
 abbrev pub decreases-cards : goal.decreases-cards
 decreases-cards l = length l.cards

@@ -4,7 +4,7 @@ use Rattle.netlist_turn.specs.Made.{Made}
 use Rattle.netlist_turn.specs.Seen.{seen, SaysFault}
 use Rattle.netlist_turn.specs.declared.fault.TurnFault.{TurnFault}
 use Rattle.netlist_turn.proofs.TakenLemmas.{taken_is}
-use Rattle.netlist_turn.proofs.turn.take_word.Goals as goal
+use Rattle.netlist_turn.proofs.turn.take_plain.Goals as goal
 
 pub returns-clause-made : goal.returns-clause-made
 returns-clause-made c =
