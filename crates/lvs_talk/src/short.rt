@@ -188,7 +188,8 @@ fn copies(alloc: Global, words: &[String]) -> Result<Vec<String>, AllocError> {
 }
 
 /// The exact words that the short form of a command stands for, with its outputs beside the
-/// layout; other words as they are, but for the one that asks for progress. Three passes over the words for each option.
+/// layout; other words as they are, but for the one that asks for progress. Three passes over the
+/// words for each option.
 pub fn spelt_out(alloc: Global, words: &[String]) -> Result<Vec<String>, AllocError> {
     let [first, more @ ..] = words else {
         return Ok(Vec::new(alloc));

@@ -59,7 +59,7 @@ fn value_slip<'a>(name: &'static str, value: &'a str) -> State<'a> {
 }
 
 const STRANGER: &str =
-    "lvs: `@` stands behind no option of `@`, and its ending doesn't say what it is";
+    "lvs: `@` stands behind no option of `@`, and not each file's ending says what it is";
 
 // Of a word that is no option of the command and no option's value.
 fn stranger<'a>(command: &'static str, word: &'a str) -> State<'a> {
