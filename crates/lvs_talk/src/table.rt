@@ -51,7 +51,8 @@ pub static COMMANDS: [Command; 8] = [
     Command {
         name: "netlist",
         short: "",
-        form: "netlist IN.. --out P [--top NAME] [--title] [--drop-capacitors] [--drop-resistors]",
+        form: "netlist IN.. --out P [--top NAME] [--title] [--scale V] [--drop-capacitors] \
+               [--drop-resistors]",
         text: "turns netlists as netlisters write them into a schematic that run reads",
     },
     Command {
@@ -74,7 +75,7 @@ pub static COMMANDS: [Command; 8] = [
     },
 ];
 
-pub static CHOICES: [Choice; 15] = [
+pub static CHOICES: [Choice; 16] = [
     Choice {
         name: "--layout",
         value: "P",
@@ -165,6 +166,13 @@ pub static CHOICES: [Choice; 15] = [
         takers: "netlist",
         needers: "",
         text: "the first line of the first file is a title",
+    },
+    Choice {
+        name: "--scale",
+        value: "V",
+        takers: "netlist",
+        needers: "",
+        text: "what sizes are in, in metres: a number above 0, at most 1,000, as 1u",
     },
     Choice {
         name: "--drop-capacitors",
