@@ -34,6 +34,8 @@ connect_global(bulk, "VSS")
 connect_global(ptie, "VSS")
 psd.output(10, 0)
 nsd.output(11, 0)
+keep_covered
+flatten_unmatched
 """
 
 INVERTER = [

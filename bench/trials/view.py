@@ -2,7 +2,7 @@
 import gds
 import tools
 
-CHIP = ["--layout", "chip.gds", "--rules", "chip.lvs", "--schematic"]
+CHIP = ["--layout", "chip.gds", "--rules", "place.lvs", "--schematic"]
 REFUSED = [
     (CHIP[:4], "refused words"),
     (CHIP + ["chip.cir"], "refused words"),
@@ -26,6 +26,7 @@ def far_chip(trials):
 def try_all(trials):
     text, formats = tools.document("docs/FROM_KLAYOUT.md"), tools.document("docs/FORMATS.md")
     trials.expect("make", (0, "match cells 4 circuits 4 pairs 4 bad 0"), trials.run("make", "3", "1", "1", "chip"))
+    tools.in_place(trials)
     trials.put("width.cir", trials.text("chip.cir").replace("W=0.5U", "W=0.6U", 1))
     far_chip(trials)
     for words, line in REFUSED:

@@ -23,6 +23,7 @@ ghost use Rattle.layer_phase.specs.Work.{IsReference, IsView};
 
 use crate::exposed::{ExposedLists, expose, set_at};
 use crate::grown::sized;
+use crate::squares::whole;
 use crate::stirred::{outside, stirred_of};
 use crate::work::View;
 use cell_context::{grown, push_array};
@@ -221,18 +222,7 @@ fn looks_in(alloc: Global, view: &View, cell: u32, hull: &Rect) -> Result<RectSe
     Ok(set)
 }
 
-// The whole hull: where no cell is placed, all of it may be looked at, by one look.
-fn whole(alloc: Global, hull: &Rect) -> Result<RectSet, AllocError>
-    requires { IsRect hull.now }
-    ensures { IfOk result (λ r. (q : Square) → covers r q ≡ has hull.now q) }
-{
-    let mut rects = Vec::new(alloc);
-    rects.push(*hull)?;
-    let set = RectSet::canon(alloc, rects)?;
-    Ok(set)
-}
-
-// The squares to be looked at of a cell that places no other.
+// The squares to be looked at of a cell that places no other: its whole hull, by one look.
 fn leaf_looks(alloc: Global, view: &View, cell: u32, hull: &Rect) -> Result<RectSet, AllocError>
     requires hull { hull_of (cell_at view.now.design.now cell) ≡ Some hull.now }
     requires view { IsView view.now }
