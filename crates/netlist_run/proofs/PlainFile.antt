@@ -1,8 +1,8 @@
 -- A file of plain lines is joined to a text with its cards.
-use Rattle.std.proofs.Common.{◌≡◌, ◌⊎◌, inl, inr, ℕ, ◌+◌, ◌==◌, ◌&&◌, ◌||◌, not, Bool, true, false, List, [], ◌∷◌, ◌++◌, map, length, Option, Some, None, Result, Ok, Err, refl, sym, ap, subst, ◌∙◌, append_assoc}
-use Rattle.std.specs.Prelude.{if◌then◌else◌}
+use Rattle.std.proofs.Common.{◌≡◌, ◌⊎◌, inl, inr, ℕ, ◌+◌, ◌==◌, ◌&&◌, ◌||◌, Bool, true, false, List, [], ◌∷◌, ◌++◌, map, length, Option, Some, None, Result, Ok, Err, refl, sym, ap, subst, ◌∙◌, append_assoc}
+use Rattle.std.specs.Prelude.{if◌then◌else◌, not}
 use Rattle.std.specs.List.{list_any}
-use Rattle.std.proofs.lemmas.Bool.{and_parts, eqb-true, not-false, or_parts}
+use Rattle.std.proofs.lemmas.Bool.{and_parts, eqb-true, not-true, or_parts}
 use Rattle.std.proofs.lemmas.List.{append-nil}
 use Rattle.std.proofs.lemmas.List.Folds.{list_any-append}
 use Rattle.plain_netlist.specs.Netlist.{Netlist}
@@ -64,7 +64,7 @@ line_by : (q : Bool) (law : PlainLineLaw) (text bytes : List ℕ) (b : ℕ) → 
 line_by true law text bytes b e h = comment text bytes b (eqb-true b 0x2A e) ∙ some_same text (text ++ []) (sym (append-nil text))
 line_by false law text bytes b e h =
     let parts = and_parts (not (is_blank b)) (not (has_special (b ∷ bytes))) h in
-    let by = words_by (is_blank b) (b == 0x2A) (b == 0x2B) law text bytes (with_line text bytes) b (not-false (is_blank b) parts.0) e (not-false (has_special (b ∷ bytes)) parts.1) in
+    let by = words_by (is_blank b) (b == 0x2A) (b == 0x2B) law text bytes (with_line text bytes) b (not-true (is_blank b) parts.0) e (not-true (has_special (b ∷ bytes)) parts.1) in
     by ∙ ap (λ (t : Bool). let x : Option (List ℕ) = Some (text ++ (if t then [] else b ∷ bytes)) in x) e
 
 plain_with : (law : PlainLineLaw) (text line : List ℕ) → stays line ≡ true → with_line text line ≡ Some (text ++ kept line)
@@ -234,7 +234,7 @@ plain_bytes (b ∷ bytes) h =
 kept_plain_by : (q : Bool) (b : ℕ) (bytes : List ℕ) → (q || (not (is_blank b) && not (has_special (b ∷ bytes)))) ≡ true → has_escape (if q then [] else b ∷ bytes) ≡ false
 kept_plain_by true b bytes h = refl
 kept_plain_by false b bytes h =
-    plain_bytes (b ∷ bytes) (not-false (has_special (b ∷ bytes)) (and_parts (not (is_blank b)) (not (has_special (b ∷ bytes))) h).1)
+    plain_bytes (b ∷ bytes) (not-true (has_special (b ∷ bytes)) (and_parts (not (is_blank b)) (not (has_special (b ∷ bytes))) h).1)
 
 kept_plain : (line : List ℕ) → stays line ≡ true → has_escape (kept line) ≡ false
 kept_plain [] h = refl

@@ -109,8 +109,8 @@ is_middle q h =
     let p : Square = record { x = q.x +ℤ negsuc 0; y = q.y +ℤ negsuc 0 } in
     let r : Square = record { x = q.x +ℤ pos 1; y = q.y +ℤ pos 1 } in
     between q p r (omega (arith, ints)) (omega (arith, ints)) refl refl
-      (body_of p (here 0 p (h p (record { left = omega (arith, ints); right = omega (arith, ints); low = omega (arith, ints); high = omega (arith, ints) }))))
-      (body_of r (here 0 r (h r (record { left = omega (arith, ints); right = omega (arith, ints); low = omega (arith, ints); high = omega (arith, ints) }))))
+    (body_of p (here 0 p (h p (record { left = omega (arith, ints); right = omega (arith, ints); low = omega (arith, ints); high = omega (arith, ints) }))))
+    (body_of r (here 0 r (h r (record { left = omega (arith, ints); right = omega (arith, ints); low = omega (arith, ints); high = omega (arith, ints) }))))
 
 abbrev Part : Square → Type 0
 Part = InPart Shrunk middle
