@@ -156,6 +156,7 @@ passed_dotted : (w : List ℕ) → is_passed_word w ≡ true → begin w ≡ 0x2
 passed_dotted w h =
     let t : List ℕ → Bool = λ text. is_text text w in
     let param = t (codes ".PARAM") in
+    let device = t (codes ".DEVICE") in
     let include = t (codes ".INCLUDE") in
     let inc = t (codes ".INC") in
     let lib = t (codes ".LIB") in
@@ -163,14 +164,16 @@ passed_dotted w h =
     let model = t (codes ".MODEL") in
     let temp = t (codes ".TEMP") in
     let end = t (codes ".END") in
-    or_case (param || include || inc || lib || endl || model || is_option w || temp) end h
-    (λ h1. or_case (param || include || inc || lib || endl || model || is_option w) temp h1
-    (λ h2. or_case (param || include || inc || lib || endl || model) (is_option w) h2
-    (λ h3. or_case (param || include || inc || lib || endl) model h3
-    (λ h4. or_case (param || include || inc || lib) endl h4
-    (λ h5. or_case (param || include || inc) lib h5
-    (λ h6. or_case (param || include) inc h6
-    (λ h7. or_case param include h7 (dotted (codes "PARAM") w) (dotted (codes "INCLUDE") w))
+    or_case (param || device || include || inc || lib || endl || model || is_option w || temp) end h
+    (λ h1. or_case (param || device || include || inc || lib || endl || model || is_option w) temp h1
+    (λ h2. or_case (param || device || include || inc || lib || endl || model) (is_option w) h2
+    (λ h3. or_case (param || device || include || inc || lib || endl) model h3
+    (λ h4. or_case (param || device || include || inc || lib) endl h4
+    (λ h5. or_case (param || device || include || inc) lib h5
+    (λ h6. or_case (param || device || include) inc h6
+    (λ h7. or_case (param || device) include h7
+    (λ h8. or_case param device h8 (dotted (codes "PARAM") w) (dotted (codes "DEVICE") w))
+    (dotted (codes "INCLUDE") w))
     (dotted (codes "INC") w))
     (dotted (codes "LIB") w))
     (dotted (codes "ENDL") w))
