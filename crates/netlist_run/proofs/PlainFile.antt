@@ -1,7 +1,6 @@
 -- A file of plain lines is joined to a text with its cards.
-use Rattle.std.proofs.Common.{◌≡◌, ◌⊎◌, inl, inr, ℕ, ◌+◌, ◌==◌, ◌&&◌, ◌||◌, Bool, true, false, List, [], ◌∷◌, ◌++◌, map, length, Option, Some, None, Result, Ok, Err, refl, sym, ap, subst, ◌∙◌, append_assoc}
+use Rattle.std.proofs.Common.{◌≡◌, inl, inr, ℕ, ◌+◌, ◌==◌, ◌&&◌, ◌||◌, Bool, true, false, List, [], ◌∷◌, ◌++◌, map, length, Option, Some, None, Result, Ok, Err, refl, sym, ap, subst, ◌∙◌, append_assoc}
 use Rattle.std.specs.Prelude.{if◌then◌else◌, not}
-use Rattle.std.specs.List.{list_any}
 use Rattle.std.proofs.lemmas.Bool.{and_parts, eqb-true, not-true, or_parts}
 use Rattle.std.proofs.lemmas.List.{append-nil}
 use Rattle.std.proofs.lemmas.List.Folds.{list_any-append}
@@ -27,7 +26,7 @@ use Rattle.netlist_join.specs.declared.join.Why.TheVariants.{EarlyMore}
 use Rattle.netlist_turn.specs.Words.{has_escape}
 use Rattle.netlist_join.specs.Seen.{seen}
 use Rattle.netlist_run.specs.Kept.{EndsLast, KeptNetlistLaw}
-use Rattle.netlist_run.specs.Plain.{ArePlain, HasCards, IsPlain, KeptFileLaw, PlainFileLaw, stays}
+use Rattle.netlist_run.specs.Plain.{ArePlain, KeptFileLaw, PlainFileLaw, stays}
 
 -- ---- what is left of a line
 

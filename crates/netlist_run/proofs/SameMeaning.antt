@@ -1,23 +1,23 @@
 -- Cards that are the same but for their lines mean the same netlist.
-use Rattle.std.proofs.Common.{◌≡◌, ◌⊎◌, inl, inr, ℕ, zero, suc, ◌+◌, ◌<◌, ◌==◌, Bool, true, false, List, [], ◌∷◌, ◌++◌, length, map, take, Option, Some, None, Result, Ok, Err, refl, sym, ap, subst, ◌∙◌}
-use Rattle.std.specs.Prelude.{flat_map, not, slice_get, slice_index_or, if◌then◌else◌}
+use Rattle.std.proofs.Common.{◌≡◌, inl, inr, ℕ, zero, suc, ◌+◌, ◌<◌, ◌==◌, Bool, List, [], ◌∷◌, ◌++◌, length, map, take, Option, Some, None, Result, Ok, refl, sym, ap, subst, ◌∙◌}
+use Rattle.std.specs.Prelude.{flat_map, not, slice_get}
 use Rattle.call_order.specs.Order.{Calls, ReachesItself}
 use Rattle.plain_netlist.specs.Chains.{IsChain}
 use Rattle.plain_netlist.specs.Lists.{IsListed}
 use Rattle.plain_netlist.specs.Netlist as plain
-use Rattle.spice_cards.specs.Cards.{Card, cards_of, early_more}
+use Rattle.spice_cards.specs.Cards.{cards_of, early_more}
 use Rattle.spice_rows.specs.Rows.{CallCard, DeviceCard}
 use Rattle.spice_rows.specs.Sizes.{Limits}
 use Rattle.spice_rows.specs.declared.fault.SpiceFault.{SpiceFault}
 use Rattle.text_table.specs.Texts.{has_text, place_of}
 use Rattle.netlist_turn.specs.KeptLaw.{saying, tokens_in}
 use Rattle.spice_text.specs.Circuits.{all_of, call_lists, called_in, names_of}
-use Rattle.spice_text.specs.Faults.{HasCall, IsCallOn, IsSecond, Lacks, is_missing, is_other_count, is_other_than}
-use Rattle.spice_text.specs.Gather.{Circuit, Cards, early_or, no_cards, reading, reading_of}
-use Rattle.spice_text.specs.Means.{IsNetlistOf, Means, appearances, call_names, call_row, circuit_row, device_row, net_names, row_over, rows_from}
-use Rattle.spice_text.specs.Needs.{Needs, Passes, Picks, call_nets, device_nets, first_seen, is_pin, is_used, pin_in, used_in, used_nets}
+use Rattle.spice_text.specs.Faults.{HasCall, IsSecond, Lacks, is_missing, is_other_count, is_other_than}
+use Rattle.spice_text.specs.Gather.{Circuit, Cards, early_or, no_cards, reading}
+use Rattle.spice_text.specs.Means.{IsNetlistOf, Means, call_names, call_row, circuit_row, device_row, net_names, row_over, rows_from}
+use Rattle.spice_text.specs.Needs.{Needs, Passes, Picks, call_nets, device_nets, first_seen, is_pin, pin_in, used_in}
 use Rattle.netlist_run.specs.Kept.{EndsLast}
-use Rattle.netlist_run.proofs.SameReading.{AreSame, AreSameCalls, AreSameCards, IsSame, IsSameSome, ReadsSame, reads_same, same_closed}
+use Rattle.netlist_run.proofs.SameReading.{AreSame, AreSameCalls, AreSameCards, IsSame, IsSameSome, reads_same, same_closed}
 
 -- ---- the other way round
 

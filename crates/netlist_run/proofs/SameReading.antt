@@ -1,13 +1,13 @@
 -- Cards that say the same are read as the same, but for their lines.
 use Rattle.std.proofs.Common.{◌≡◌, ◌⊎◌, inl, inr, ℕ, Bool, true, false, List, [], ◌∷◌, ◌++◌, Option, Some, None, Result, Ok, Err, refl, sym, ap, subst, ◌∙◌}
-use Rattle.std.specs.Prelude.{is_some, map, replicate, if◌then◌else◌}
+use Rattle.std.specs.Prelude.{is_some, replicate, if◌then◌else◌}
 use Rattle.spice_cards.specs.Cards.{Card}
 use Rattle.spice_cards.specs.Tokens.{Token}
 use Rattle.spice_rows.specs.Rows.{CallCard, CardRow, Opens, Ends, Globals, Stops, Passed, Device, Call, DeviceCard, card_row}
 use Rattle.spice_rows.specs.Sizes.{Limits}
 use Rattle.spice_rows.specs.declared.fault.SpiceFault.{SpiceFault}
 use Rattle.netlist_turn.specs.KeptLaw.{is_silent, saying, tokens_in}
-use Rattle.spice_text.specs.Gather.{Circuit, Cards, begun, changed, closed, or_top, read_on, reading, with_call, with_devices, with_row}
+use Rattle.spice_text.specs.Gather.{Circuit, Cards, changed, closed, or_top, read_on, reading, with_call, with_devices, with_row}
 use Rattle.netlist_run.specs.Kept.{EndsLast, is_end}
 use Rattle.netlist_run.proofs.SameRows.{IsAlike, IsSilentRow, card_alike, on_line, silent_row}
 

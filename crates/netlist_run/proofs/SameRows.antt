@@ -1,5 +1,5 @@
 -- A card says the same on each line.
-use Rattle.std.proofs.Common.{◌≡◌, ◌⊎◌, inl, inr, ℕ, ◌==◌, Bool, true, false, List, [], ◌∷◌, Option, Some, None, Result, Ok, Err, refl, sym, ap, ◌∙◌}
+use Rattle.std.proofs.Common.{◌≡◌, ℕ, ◌==◌, Bool, true, false, List, [], ◌∷◌, Option, Some, None, Result, Ok, Err, refl, sym, ap}
 use Rattle.std.specs.Prelude.{codes, not, ◌&&◌, ◌||◌, if◌then◌else◌}
 use Rattle.std.specs.List.{list_any}
 use Rattle.std.specs.Str.{bytes_eq}
@@ -13,13 +13,13 @@ use Rattle.spice_cards.specs.Parts.{Param, behind_words, params_of, words_of}
 use Rattle.spice_rows.specs.Kinds.{letter}
 use Rattle.spice_rows.specs.Names.{are_apart, is_text, names_of}
 use Rattle.spice_rows.specs.Params.{copies_of, is_one, is_refused}
-use Rattle.spice_rows.specs.Rows.{CallCard, CardRow, Opens, Ends, Globals, Stops, Passed, Device, Call, DeviceCard, begin, call_row, card_of, card_row, copies_said, device_of, device_row, end_row, formed_row, global_row, is_formed, is_known, is_passed, no_params, open_row, row_of, stop_row}
+use Rattle.spice_rows.specs.Rows.{CardRow, Opens, Ends, Globals, Stops, Passed, Device, Call, DeviceCard, begin, call_row, card_of, card_row, copies_said, device_of, device_row, end_row, formed_row, global_row, is_formed, is_known, is_passed, no_params, open_row, row_of, stop_row}
 use Rattle.spice_rows.specs.Sizes.{Limits, sizes_of}
 use Rattle.spice_rows.specs.declared.fault.SpiceFault.{SpiceFault}
-use Rattle.spice_rows.specs.declared.fault.SpiceFault.TheVariants.{BadLine, ParameterRefused, UnknownCard, Value}
+use Rattle.spice_rows.specs.declared.fault.SpiceFault.TheVariants.{BadLine, ParameterRefused, UnknownCard}
 use Rattle.netlist_turn.specs.KeptLaw.{is_passed_row, is_silent}
 use Rattle.netlist_turn.specs.declared.rows.Row.TheVariants as turned
-use Rattle.netlist_turn.specs.Words.{is_option, is_passed_word, row_of as turned_row}
+use Rattle.netlist_turn.specs.Words.{is_option, is_passed_word}
 use Rattle.netlist_run.specs.Kept.{is_end}
 
 abbrev Read : Type 0

@@ -1,6 +1,6 @@
 -- A file whose lines are joined as they stand, and what a run makes of such a file.
 use Rattle.std.specs.Prelude.{◌≡◌, ◌⊎◌, ℕ, Bool, true, false, ◌==◌, ◌&&◌, ◌||◌, not, List, [], ◌∷◌}
-use Rattle.std.specs.Prelude.{None, Ok, length}
+use Rattle.std.specs.Prelude.{Ok, length}
 use Rattle.plain_netlist.specs.Netlist.{Netlist}
 use Rattle.rule_lines.specs.Lines.{chopped, lines_of}
 use Rattle.spice_cards.specs.Cards.{cards_of, early_more}

@@ -10,14 +10,14 @@ use Rattle.flat_layout.specs.Gates.{gate_inputs, gate_reach, Geometry, IsGoodGat
 use Rattle.flat_layout.specs.GateTables.{GateSquare}
 use Rattle.flat_layout.specs.Layers.{InFlat, Input}
 use Rattle.flat_layout.specs.Layout.{Cell, InFlatInput, IsOwn, IsPlaced, Layer, Place, Some_of, Takes}
-use Rattle.flat_layout.specs.Parts.{AreGroupsOf, Edge, Edges, InGroupOf, InPart, InSideOf, IsBorderOf, IsLongOf, IsStep, IsWideOf, Region, Sides, TwoGroups}
+use Rattle.flat_layout.specs.Parts.{AreGroupsOf, Edge, InGroupOf, InPart, InSideOf, IsBorderOf, IsLongOf, IsStep, IsWideOf, Region, Sides, TwoGroups}
 use Rattle.flat_layout.specs.Plane.{AreWithin, IsIn, SharesEdge}
 use Rattle.flat_layout.specs.Regions.{At, Ground, Node}
 use Rattle.law_samples.proofs.layout.Right.{none_some}
 use Rattle.law_samples.specs.Shrunk.{body_rect, diode_row, diode_rule, IsDevice, left, left_rect, middle, resistor_row, resistor_rule, right, right_rect, shrunk, ShrunkDevicesLaw, ShrunkLaw, small_cell, small_design, small_wiring, spot}
 use Rattle.law_samples.specs.Transistors.{key_of}
 use Rattle.plain_netlist.proofs.Links.{stays}
-use Rattle.plain_netlist.specs.Chains.{IsChain, Reaches}
+use Rattle.plain_netlist.specs.Chains.{IsChain}
 use Rattle.plain_netlist.specs.Devices.{First, IsAt, Other, Row, Second, Terminal}
 use Rattle.plain_netlist.specs.Lists.{AreApart, IsListed}
 
@@ -31,7 +31,7 @@ unplaced (suc n) k p (c, e, f) = none_some c e
 
 here_by : (key : LayerKey) (q : Square) (path : List ℕ) (end : ℕ) (s : Square) → Takes small_design 0 path end s q → IsOwn small_design end key s → IsOwn small_design 0 key q
 here_by key q [] end s (e, f) own = subst (λ (n : ℕ). IsOwn small_design n key q) (sym e) (subst (IsOwn small_design end key) f own)
-here_by key q (k ∷ ks) end s (p, placed, rest) own = absurd (unplaced 0 k p placed)
+here_by key q (k ∷ ks) end s (p, placed, r, rest, e) own = absurd (unplaced 0 k p placed)
 
 abbrev Covers : ℕ → Square → List Layer → Type 0
 Covers c q layers = Some_of (λ (l : Layer). (l.key ≡ key_of c) × Some_of (IsIn q) l.rects) layers
