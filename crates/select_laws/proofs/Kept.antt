@@ -1,21 +1,39 @@
 -- The image of a whole region is a whole region, with what is round it.
 use Rattle.std.proofs.Common.{◌≡◌, ◌↔◌, ℕ, List, [], ◌∷◌, sym, ap, subst}
 use Rattle.flat_layout.specs.Gates.{Geometry, IsReadBy, IsSoundGeometry}
-use Rattle.flat_layout.specs.Layers.{Formula, inputs, reach, InFlat, IsCalmAt}
-use Rattle.flat_layout.specs.Layout.{Place, Design, IsPlaced, IsReached}
+use Rattle.flat_layout.specs.Layers.{Formula, inputs, reach, InFlat, IsCalmAt, IsStirred}
+use Rattle.flat_layout.specs.Layout.{Place, Design, IsDisturbed, IsPlaced, IsReached}
 use Rattle.flat_layout.specs.Parts.{IsCloseTo}
-use Rattle.flat_layout.specs.Plane.{IsAround}
+use Rattle.flat_layout.specs.Plane.{AreWithin, IsAround}
 use Rattle.geo_base.specs.Motions.{moved_square}
+use Rattle.geo_base.specs.declared.layer.LayerKey.{LayerKey}
 use Rattle.geo_base.specs.declared.shapes.Square.{Square}
 use Rattle.plain_netlist.specs.Chains.{IsChain, Reaches}
 use Rattle.plain_netlist.proofs.Links.{stays, prepend}
 use Rattle.flat_laws.proofs.Paths.{moved_square-injective}
-use Rattle.flat_laws.proofs.Calm.{same_flat, calm_above, calm_fewer}
-use Rattle.flat_laws.proofs.Moves.{arounds, around_same, onto}
+use Rattle.flat_laws.proofs.Calm.{same_flat}
+use Rattle.flat_laws.proofs.Leaving.{calm_unstirred}
+use Rattle.flat_laws.proofs.Moves.{arounds, around_same, onto, withins}
+use Rattle.flat_laws.proofs.Names.{fewer_stirred}
+use Rattle.flat_laws.proofs.Shut.{disturbed_below}
 use Rattle.flat_layout.specs.Parts.{Joint, IsJoint, AreAdjacent}
 use Rattle.select_laws.specs.RegionLaws.{KeptRegionLaw}
 use Rattle.select_laws.specs.Whole.{RegionAt, IsByRegion, IsWhole}
 use Rattle.flat_laws.proofs.Joints.{joints, joint_around, region_self, region_next}
+
+-- what stirs the parent there stirs the placed cell
+stirred_below : (d : Design) (keys : List LayerKey) (n parent k : ℕ) (p : Place) (q : Square) → IsPlaced d parent k p → IsStirred d keys n parent (moved_square p.motion q) → IsStirred d keys n p.cell q
+stirred_below d keys n parent k p q placed h =
+    let r = onto p.motion h.square in
+    record {
+      square = r.0;
+      within = (withins n p.motion r.0 q).0 (subst (λ y. AreWithin n y (moved_square p.motion q)) (sym r.1) h.within);
+      disturbed = disturbed_below d keys parent k p r.0 placed (subst (λ y. IsDisturbed d keys parent y) (sym r.1) h.disturbed);
+    }
+
+-- where nothing is stirred for the geometry, all is calm for a name that it reads
+pub calm_name : (d : Design) (g : Geometry) (name : Formula) (cell : ℕ) (q : Square) → IsReadBy g name → (IsStirred d g.keys g.reach cell q → ⊥) → IsCalmAt d (inputs name) (reach name) cell q
+calm_name d g name cell q read none = calm_unstirred d (inputs name) (reach name) cell q (λ h. none (fewer_stirred d (inputs name) g.keys (reach name) g.reach cell q read.reach read.keys h))
 
 -- a set's square is close to it
 pub in_close : (A : Square → Type 0) (q : Square) → A q → IsCloseTo A q
@@ -43,7 +61,7 @@ module _ (d : Design) (j : Joint) (g : Geometry) (sound : IsSoundGeometry g) (ce
 
   -- by the region, the flat sets that the geometry reads are the same
   pub same_read : (name : Formula) → IsReadBy g name → (q : Square) → IsByRegion d j g p.cell s q → InFlat d cell name (f q) ↔ InFlat d p.cell name q
-  same_read name read q near = same_flat d name cell k p q reached placed (calm_fewer d (inputs name) g.keys (reach name) g.reach p.cell q read.reach read.keys (whole.calm q near))
+  same_read name read q near = same_flat d name cell k p q reached placed (calm_name d g name p.cell q read (whole.calm q near))
 
   same : (q : Square) → IsByRegion d j g p.cell s q → InFlat d cell g.region (f q) ↔ InFlat d p.cell g.region q
   same q near = same_read g.region sound q near
@@ -96,7 +114,7 @@ module _ (d : Design) (j : Joint) (g : Geometry) (sound : IsSoundGeometry g) (ce
     calm = λ q c.
         let r = onto p.motion q in
         let near = (close r.0).0 (subst (λ y. IsByRegion d j g cell (f s) y) (sym r.1) c) in
-        subst (λ y. IsCalmAt d g.keys g.reach cell y) r.1 (calm_above d g.keys g.reach cell k p r.0 placed (whole.calm r.0 near));
+        λ h. whole.calm r.0 near (stirred_below d g.keys g.reach cell k p r.0 placed (subst (λ y. IsStirred d g.keys g.reach cell y) (sym r.1) h));
   }
 
 pub kept_region : KeptRegionLaw

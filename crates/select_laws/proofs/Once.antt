@@ -2,14 +2,16 @@
 use Rattle.std.proofs.Common.{◌≡◌, inl, inr, ℕ, zero, suc, ◌<◌, List, [], ◌∷◌, refl, sym, subst, arith}
 use Rattle.std.proofs.Math.Decide.{ℕ_discrete}
 use Rattle.flat_layout.specs.Gates.{Geometry, IsSoundGeometry}
-use Rattle.flat_layout.specs.Layers.{InFlat, IsLone}
+use Rattle.flat_layout.specs.Layers.{inputs, reach, InFlat, IsLone}
 use Rattle.flat_layout.specs.Layout.{Place, Design, IsPlaced, Takes, IsReached, IsHeight}
 use Rattle.geo_base.specs.Motions.{moved_square}
 use Rattle.geo_base.specs.declared.shapes.Square.{Square}
 use Rattle.flat_laws.proofs.Paths.{same_place}
-use Rattle.flat_laws.proofs.Calm.{calm_lone, top_calm}
+use Rattle.flat_laws.proofs.Lone.{lone, near_disturbed}
 use Rattle.flat_laws.proofs.Cover.{reached_below}
-use Rattle.flat_laws.proofs.Shut.{shut_laws}
+use Rattle.flat_laws.proofs.Moves.{wider}
+use Rattle.flat_laws.proofs.Names.{fewer}
+use Rattle.flat_laws.proofs.Shut.{calm_top}
 use Rattle.flat_layout.specs.Parts.{Joint}
 use Rattle.select_laws.specs.RegionLaws.{OneRegionPlaceLaw, EachRegionLaw, TopRegionLaw}
 use Rattle.select_laws.specs.Whole.{RegionAt, IsWhole, IsWholeBelow, IsOwnRegion, IsFoundRegion, ArePartedRegions}
@@ -18,8 +20,13 @@ use Rattle.select_laws.proofs.Kept.{close_in, squares, region_up, region_down, s
 
 -- others can't make a whole region's square alone
 pub not_lone : (d : Design) (j : Joint) (g : Geometry) (cell : ℕ) (s : Square) → IsSoundGeometry g → IsWhole d j g cell s → IsLone d cell g.region s → ⊥
-not_lone d j g cell s sound whole =
-    calm_lone d g.region g.keys g.reach cell s sound.reach sound.keys (whole.calm s (close_in d j g cell s s (region_self j (InFlat d cell g.region) s whole.is)))
+not_lone d j g cell s sound whole h =
+    let near = near_disturbed d cell g.region s h in
+    whole.calm s (close_in d j g cell s s (region_self j (InFlat d cell g.region) s whole.is)) (record {
+      square = near.0;
+      within = wider (reach g.region) g.reach near.0 s sound.reach near.1;
+      disturbed = fewer d (inputs g.region) g.keys cell near.0 sound.keys near.2;
+    })
 
 pub one_place : OneRegionPlaceLaw
 one_place d j g cell s sound reached a b =
@@ -29,7 +36,7 @@ one_place d j g cell s sound reached a b =
           let way = region_between j (InFlat d cell g.region) s (moved_square b.place.motion b.square) (moved_square a.place.motion a.square) b.image a.image in
           let r = region_down d j g sound cell b.number b.place b.square reached b.placed b.whole (moved_square a.place.motion a.square) way in
           let there = region_has j (InFlat d b.place.cell g.region) b.square r.0 r.2 in
-          absurd (not_lone d j g a.place.cell a.square sound a.whole (shut_laws.lone d g.region cell a.number b.number a.place b.place a.square r.0 reached a.placed b.placed not (sym r.1) there))
+          absurd (not_lone d j g a.place.cell a.square sound a.whole (lone d.way d g.region cell a.number b.number a.place b.place a.square r.0 reached a.placed b.placed not (sym r.1) there))
     ]
 
 -- the image of a whole region along a path is whole
@@ -107,4 +114,4 @@ each_once d j g height sound linked parted cell s reached settled =
     (f, λ h. unique d j g sound f.path h.path cell s reached f.end f.square f.place f.takes f.image f.own h.end h.square h.place h.takes h.image h.own)
 
 pub top_whole : TopRegionLaw
-top_whole d j g height linked s h = record { is = h; calm = λ q c. top_calm d height linked g.keys g.reach q }
+top_whole d j g height linked s h = record { is = h; calm = λ q c h. calm_top d height linked g.keys h.square h.disturbed }

@@ -2,7 +2,7 @@
 use Rattle.std.proofs.Common.{◌≡◌, ◌⊎◌, ◌↔◌, inl, inr, ℕ, List, [], ◌∷◌, refl, sym, ◌∙◌, subst}
 use Rattle.std.proofs.Math.Decide.{ℕ_discrete}
 use Rattle.flat_layout.specs.Gates.{Geometry, IsReadBy, IsSoundGeometry}
-use Rattle.flat_layout.specs.Layers.{Formula, Input, Empty, Binary, Sized, InFlat, IsKept, IsLocal, IsCalmAt}
+use Rattle.flat_layout.specs.Layers.{Formula, Input, Empty, Binary, Sized, InFlat, IsKept, IsLocal, IsStirred}
 use Rattle.flat_layout.specs.Layout.{Place, Design, IsPlaced, IsReached}
 use Rattle.flat_layout.specs.Parts.{IsCloseTo}
 use Rattle.geo_base.specs.Motions.{moved_square}
@@ -10,6 +10,8 @@ use Rattle.geo_base.specs.declared.shapes.Square.{Square}
 use Rattle.plain_netlist.specs.Chains.{IsChain}
 use Rattle.plain_netlist.proofs.Links.{single, along}
 use Rattle.flat_laws.proofs.Cover.{kept_above, kept_here, reached_below}
+use Rattle.flat_laws.proofs.Leaving.{calm_unstirred}
+use Rattle.flat_laws.proofs.Lone.{lone}
 use Rattle.flat_laws.proofs.Moves.{within_same}
 use Rattle.flat_laws.proofs.Paths.{same_place, disturbs, moved_square-injective}
 use Rattle.flat_laws.proofs.Terminals.{keep}
@@ -20,7 +22,6 @@ use Rattle.flat_laws.proofs.Joints.{joint_around, joint_back, region_self, regio
 use Rattle.select_laws.proofs.Kept.{close_in, region_down, still}
 use Rattle.select_laws.proofs.Layered.{whole_on}
 use Rattle.select_laws.proofs.Once.{not_lone}
-use Rattle.flat_laws.proofs.Shut.{shut_laws}
 
 pub kept_flat : (d : Design) (cell : ℕ) (name : Formula) (q : Square) → IsKept d cell name q → InFlat d cell name q
 kept_flat d cell (Input key) q h = h
@@ -30,7 +31,7 @@ kept_flat d cell (Sized by a) q h = h.0
 
 -- what a cell holds itself isn't in a calm flat square of a placed cell
 local_not : (d : Design) (g : Geometry) (name : Formula) → IsReadBy g name → (cell k : ℕ) (p : Place) (c q : Square) → IsReached d cell → IsPlaced d cell k p → moved_square p.motion c ≡ q
-    → InFlat d p.cell name c → IsCalmAt d g.keys g.reach p.cell c → IsLocal d cell name q → ⊥
+    → InFlat d p.cell name c → (IsStirred d g.keys g.reach p.cell c → ⊥) → IsLocal d cell name q → ⊥
 local_not d g (Input key) read cell k p c q reached placed e flat calm own =
     calm (record {
       square = c;
@@ -39,9 +40,9 @@ local_not d g (Input key) read cell k p c q reached placed e flat calm own =
     })
 local_not d g Empty read cell k p c q reached placed e flat calm own = own
 local_not d g (Binary op a b) read cell k p c q reached placed e flat calm own =
-    own.1 (record { number = k; place = p; square = c; placed = placed; kept = keep d g p.cell (Binary op a b) c read calm flat; image = e })
+    own.1 (record { number = k; place = p; square = c; placed = placed; kept = keep d g p.cell (Binary op a b) c read (calm_unstirred d g.keys g.reach p.cell c calm) flat; image = e })
 local_not d g (Sized by a) read cell k p c q reached placed e flat calm own =
-    own.1 (record { number = k; place = p; square = c; placed = placed; kept = keep d g p.cell (Sized by a) c read calm flat; image = e })
+    own.1 (record { number = k; place = p; square = c; placed = placed; kept = keep d g p.cell (Sized by a) c read (calm_unstirred d g.keys g.reach p.cell c calm) flat; image = e })
 
 module _ (d : Design) (j : Joint) (g : Geometry) (sound : IsSoundGeometry g) (cell : ℕ) (reached : IsReached d cell) where
   abbrev F : Square → Type 0
@@ -57,7 +58,7 @@ module _ (d : Design) (j : Joint) (g : Geometry) (sound : IsSoundGeometry g) (ce
       let r = region_down d j g sound cell b.number b.place b.square reached b.placed b.whole q way in
       (r.0, r.1, whole_on d j g sound b.place.cell b.square r.0 b.whole r.2)
 
-  self_calm : (x : ℕ) (c : Square) → IsWhole d j g x c → IsCalmAt d g.keys g.reach x c
+  self_calm : (x : ℕ) (c : Square) → IsWhole d j g x c → IsStirred d g.keys g.reach x c → ⊥
   self_calm x c h = h.calm c (close_in d j g x c c (region_self j (InFlat d x g.region) c h.is))
 
   not_rest : (q : Square) → IsRestBelow d j g cell q → IsWholeBelow d j g cell q → ⊥
@@ -74,7 +75,7 @@ module _ (d : Design) (j : Joint) (g : Geometry) (sound : IsSoundGeometry g) (ce
             a.rest.torn (subst (λ v. IsWhole d j g a.place.cell v) (sym one) whole)
         | no not ↦
             let there = kept_flat d a.place.cell g.region a.square a.rest.kept in
-            not_lone d j g b.place.cell c.0 sound c.2 (shut_laws.lone d g.region cell b.number a.number b.place a.place c.0 a.square reached b.placed a.placed (λ e. not (sym e)) (sym same_image) there)
+            not_lone d j g b.place.cell c.0 sound c.2 (lone d.way d g.region cell b.number a.number b.place a.place c.0 a.square reached b.placed a.placed (λ e. not (sym e)) (sym same_image) there)
       ]
 
   pub not_below : (q : Square) → C q → IsWholeBelow d j g cell q → ⊥
@@ -115,8 +116,8 @@ module _ (d : Design) (j : Joint) (g : Geometry) (sound : IsSoundGeometry g) (ce
           })
         ]
 
-    keeps : (q : Square) → F q → IsCalmAt d g.keys g.reach cell q → IsKept d cell g.region q
-    keeps q h calm = keep d g cell g.region q sound calm h
+    keeps : (q : Square) → F q → (IsStirred d g.keys g.reach cell q → ⊥) → IsKept d cell g.region q
+    keeps q h calm = keep d g cell g.region q sound (calm_unstirred d g.keys g.reach cell q calm) h
 
     pub candidates : (q : Square) → AreCandidates d j g cell q
     candidates q = record {
@@ -137,7 +138,7 @@ module _ (d : Design) (j : Joint) (g : Geometry) (sound : IsSoundGeometry g) (ce
       }
 
       abbrev IsCalm : Type 0
-      IsCalm = (q : Square) → IsCloseTo P q → IsCalmAt d g.keys g.reach cell q
+      IsCalm = (q : Square) → IsCloseTo P q → IsStirred d g.keys g.reach cell q → ⊥
 
       -- a flat neighbour of a candidate is one where what is close is calm
       next : IsCalm → (a x : Square) → P a → C a → AreAdjacent j F a x → C x
@@ -189,7 +190,7 @@ told_law d j g cell sound reached parted below decided q kept = elim (parted q k
 
 pub parted_rest : PartedRestLaw
 parted_rest d j g sound parted told cell s reached whole =
-    let kept = keep d g cell g.region s sound (self_calm d j g sound cell reached cell s whole) whole.is in
+    let kept = keep d g cell g.region s sound (calm_unstirred d g.keys g.reach cell s (self_calm d j g sound cell reached cell s whole)) whole.is in
     let all = candidates d j g sound cell reached (parted cell reached) s in
     elim (parted cell reached s kept) [
       | inl h ↦ inl (all.whole (inl h) whole)

@@ -3,7 +3,7 @@
 -- below.
 use Rattle.std.specs.Prelude.{◌≡◌, ◌⊎◌, ◌↔◌, ℕ}
 use Rattle.flat_layout.specs.Gates.{Geometry, IsSoundGeometry}
-use Rattle.flat_layout.specs.Layers.{IsDecided, IsKept, IsKeptBelow, IsLocal, IsCalmAt}
+use Rattle.flat_layout.specs.Layers.{IsDecided, IsKept, IsKeptBelow, IsLocal, IsStirred}
 use Rattle.flat_layout.specs.Layout.{Place, Design, IsPlaced, IsReached}
 use Rattle.flat_layout.specs.Parts.{IsCloseTo}
 use Rattle.geo_base.specs.Motions.{moved_square}
@@ -53,7 +53,7 @@ abbrev pub CandidateLaw : Type 0
 CandidateLaw = (d : Design) (j : Joint) (g : Geometry) (cell : ℕ) → IsSoundGeometry g
     → IsReached d cell → ArePartedSquares d g cell → (s : Square) → IsCandidate d j g cell s
     → (((q : Square) → IsCloseTo (InRegion j (IsCandidate d j g cell) s) q
-    → IsCalmAt d g.keys g.reach cell q) ↔ IsWhole d j g cell s)
+    → IsStirred d g.keys g.reach cell q → ⊥) ↔ IsWhole d j g cell s)
     × (IsWhole d j g cell s → (q : Square) → InRegion j (IsCandidate d j g cell) s q
     ↔ RegionAt d j g cell s q)
 

@@ -1,7 +1,7 @@
 -- Regions that are whole in a cell, and the lowest cells in which they are.
 use Rattle.std.specs.Prelude.{◌⊎◌, ℕ, List}
 use Rattle.flat_layout.specs.Gates.{Geometry}
-use Rattle.flat_layout.specs.Layers.{InFlat, IsCalmAt}
+use Rattle.flat_layout.specs.Layers.{InFlat, IsStirred}
 use Rattle.flat_layout.specs.Layout.{Place, Design, IsPlaced, IsReached, Takes}
 use Rattle.flat_layout.specs.Parts.{IsCloseTo}
 use Rattle.geo_base.specs.Motions.{moved_square}
@@ -16,10 +16,11 @@ RegionAt d j g cell s = InRegion j (InFlat d cell g.region) s
 abbrev pub IsByRegion : Design → Joint → Geometry → ℕ → Square → Square → Type 0
 IsByRegion d j g cell s = IsCloseTo (RegionAt d j g cell s)
 
--- nothing from elsewhere disturbs the region or what is round it
+-- nothing from elsewhere disturbs the region or what is round it, in whichever way the cells of the
+-- design keep squares
 pub record IsWhole (d : Design) (j : Joint) (g : Geometry) (cell : ℕ) (s : Square) : Type 0 where
   pub is : InFlat d cell g.region s
-  pub calm : (q : Square) → IsByRegion d j g cell s q → IsCalmAt d g.keys g.reach cell q
+  pub calm : (q : Square) → IsByRegion d j g cell s q → IsStirred d g.keys g.reach cell q → ⊥
 
 -- the region is the image of a whole one
 pub record IsWholeBelow (d : Design) (j : Joint) (g : Geometry) (cell : ℕ)
