@@ -1,7 +1,7 @@
 -- Names and own squares of cells with further layers.
-use Rattle.std.proofs.Common.{◌≡◌, ℕ, zero, suc, ◌++◌, Bool, true, false, not, cond, if◌then◌else◌, List, [], ◌∷◌, Option, Some, None, map, length, slice_get, inl, inr, refl, sym, ◌∙◌, ap, subst, arith}
+use Rattle.std.proofs.Common.{◌≡◌, ℕ, zero, suc, ◌++◌, Bool, true, false, not, cond, if◌then◌else◌, List, [], ◌∷◌, Option, Some, None, slice_get, inl, inr, refl, sym, ◌∙◌, ap, subst, arith}
 use Rattle.std.specs.Global.{Vec}
-use Rattle.std.proofs.lemmas.Bool.{cases_Bool, or_left, or_parts, false≢true}
+use Rattle.std.proofs.lemmas.Bool.{cases_Bool, or_parts}
 use Rattle.base_laws.proofs.Items.{map_from, map_to, one_list}
 use Rattle.base_laws.proofs.Tests.{not_both}
 use Rattle.geo_base.specs.Layers.{is_same_key}
@@ -12,9 +12,8 @@ use Rattle.plain_netlist.proofs.Listing.{at_apart}
 use Rattle.plain_netlist.proofs.Members.{listed}
 use Rattle.cell_graph.specs.declared.cells.OwnLayer.{OwnLayer}
 use Rattle.cell_graph.specs.declared.cells.CellPart.{CellPart}
-use Rattle.cell_graph.specs.declared.drafts.CellDraft.{CellDraft}
-use Rattle.cell_graph.specs.Drafts.{IsLink, IsNamed}
-use Rattle.cell_graph.specs.Layering.{cell_names, HaveNames, has_key, other_layers, AreFurther, IsLayeredCell, IsLayeredDesign, NamesLaw, SameNamesLaw, OwnKeptLaw, OwnFurtherLaw}
+use Rattle.cell_graph.specs.Drafts.{IsNamed}
+use Rattle.cell_graph.specs.Layering.{cell_names, has_key, other_layers, AreFurther, IsLayeredDesign, NamesLaw, SameNamesLaw, OwnKeptLaw, OwnFurtherLaw}
 use Rattle.cell_graph.specs.Linked.{Linked, cell_at, layer_keys, own_of, own_rects}
 use Rattle.cell_graph.proofs.Bridge.{key_own, key_same}
 use Rattle.cell_graph.proofs.Relinking.{listed_has, names_count}

@@ -1,5 +1,5 @@
 -- Cells with further layers are drafts that link to the same places.
-use Rattle.std.proofs.Common.{◌≡◌, ◌⊎◌, inl, inr, ℕ, zero, suc, ◌+◌, ◌<◌, ◌≤◌, ◌^◌, Bool, true, false, not, List, [], ◌∷◌, ◌++◌, Option, Some, None, map, length, slice_get, refl, sym, ◌∙◌, ap, subst, arith, cond}
+use Rattle.std.proofs.Common.{◌≡◌, ◌⊎◌, inl, inr, ℕ, zero, suc, ◌+◌, ◌<◌, ◌≤◌, true, not, List, [], ◌∷◌, ◌++◌, Option, Some, None, length, slice_get, refl, sym, ◌∙◌, ap, subst, arith, cond}
 use Rattle.std.specs.Global.{Vec}
 use Rattle.std.proofs.lemmas.Bool.{cases_Bool, or_left, or_right, false≢true}
 use Rattle.base_laws.proofs.Items.{one_entry, item_at, map_to, map_from, one_list}
@@ -16,7 +16,7 @@ use Rattle.cell_graph.specs.declared.drafts.CellDraft.{CellDraft}
 use Rattle.cell_graph.specs.declared.drafts.DraftRef.{DraftRef}
 use Rattle.cell_graph.specs.declared.drafts.LinkFault.{LinkFault}
 use Rattle.cell_graph.specs.declared.drafts.LinkFault.TheVariants.{TooManyCells, DuplicateCell, NoSuchCell, Cycle, TooDeep, NoTop, TopUnclear, CoordinateRange, NoMemory}
-use Rattle.cell_graph.specs.Chains.{Leads, IsOnCycle, IsTooDeep}
+use Rattle.cell_graph.specs.Chains.{Leads}
 use Rattle.cell_graph.specs.Drafts.{IsNamed, HasRef, Refers, IsFault, IsLink}
 use Rattle.cell_graph.specs.Extents.{HaveArrays}
 use Rattle.cell_graph.specs.Layering.{cell_names, HaveNames, has_key, other_layers, AreFurther, IsLayeredDesign, IsRefOf, IsDraftOf, AreDraftsOf, AreDraftsTo, IsLayerFault, ArePlacesInside}

@@ -3,7 +3,7 @@ use Rattle.std.proofs.lemmas.Option.{slice_get-get_or, slice_get_within}
 use Rattle.cell_graph.specs.declared.drafts.CellDraft.{CellDraft}
 use Rattle.cell_graph.specs.Layering.{IsDraftOf}
 use Rattle.cell_graph.proofs.Finishes.{at_middle, one_yielded}
-use Rattle.cell_graph.proofs.LayeredDrafts.{DraftedTo, nothing_drafted, one_drafted}
+use Rattle.cell_graph.proofs.LayeredDrafts.{DraftedTo, one_drafted}
 use Rattle.cell_graph.proofs.layering.drafts_of.Goals as goal
 
 pub loop-cell-preserved : goal.loop-cell-preserved
