@@ -25,9 +25,9 @@ use Rattle.geo_base.specs.Layers.{IsStreamKey, is_same_key}
 use Rattle.rule_text.specs.Filled.{IsFilled, IsFilledForm, IsString, class_of}
 use Rattle.rule_text.specs.Reaches.{MOST_REACH, reach_by, reaches}
 use Rattle.rule_text.specs.Reading.{is_connected, is_more_connected, first_loose, first_loose_more, lesser, loose_of}
-use Rattle.plain_netlist.specs.Lists.{AreApart}
-use Rattle.plain_netlist.proofs.Listing.{apart_at, at_apart}
-use Rattle.rule_text.specs.Sound.{Each, IsLayer, AreOperands, IsReadable, IsSelectRule, AreAscending, AreJoined, AreMosLayers, AreMoreLayers, IsFormed, IsSound}
+use Rattle.plain_netlist.specs.Lists.{AreApart, AreRising}
+use Rattle.plain_netlist.proofs.Listing.{apart_at, at_apart, rising_at, at_rising}
+use Rattle.rule_text.specs.Sound.{Each, IsLayer, AreOperands, IsReadable, IsSelectRule, IsNamedBefore, AreJoined, AreMosLayers, AreMoreLayers, IsFormed, IsSound}
 use Rattle.rule_text.proofs.ReachLemmas.{reaches_more}
 use Rattle.std.proofs.lemmas.List.Elements.{All-nil, All-push}
 
@@ -165,7 +165,7 @@ select_kept : (names : List LayerRule) (n : LayerRule) (s : SelectRule) → IsSe
 select_kept names n s h = record {
   rule = h.rule;
   there = push_old names n h.rule s.name h.there;
-  form = h.form;
+  own = h.own;
   before = h.before;
   layers = (layer_kept names n s.region h.layers.0, layer_kept names n s.other h.layers.1);
 }
@@ -214,11 +214,11 @@ defined_more r name f fresh used plain filled near h =
     named_more r name (numbered r f) fresh (new_operands r f (record { name = name; form = numbered r f }) used plain filled) (new_readable r f filled) (near_most (reach_of r f) near) h
 
 -- a selection more: its name's number is greater than those of all before
-ascending_more : (names : List LayerRule) (selects : List SelectRule) (s : SelectRule) → s.name ≡ length names → Each (λ k t. IsSelectRule names t) selects → AreAscending selects
-    → AreAscending (selects ++ s ∷ [])
-ascending_more names selects s last known up j k u v e f lt = elim (push_cases selects s v k f) [
+ascending_more : (names : List LayerRule) (selects : List SelectRule) (s : SelectRule) → s.name ≡ length names → Each (λ k t. IsSelectRule names t) selects → AreRising IsNamedBefore selects
+    → AreRising IsNamedBefore (selects ++ s ∷ [])
+ascending_more names selects s last known up = at_rising IsNamedBefore (selects ++ s ∷ []) (λ j k u v lt e f. elim (push_cases selects s v k f) [
   | inl old ↦ elim (push_cases selects s u j e) [
-    | inl also ↦ up j k u v also old lt
+    | inl also ↦ rising_at IsNamedBefore selects j k u v up lt also old
     | inr (at, same) ↦ let in_ = slice_get_within selects k v old in absurd (omega (arith, at, in_, lt))
   ]
   | inr (at, same) ↦ elim (push_cases selects s u j e) [
@@ -228,7 +228,7 @@ ascending_more names selects s last known up j k u v e f lt = elim (push_cases s
         subst (λ (n : ℕ). u.name < n) (sym is) in_
     | inr (first, too) ↦ absurd (omega (arith, at, first, lt))
   ]
-]
+])
 
 chosen_more : (r : Rules) (name : List ℕ) (c : Choice) → is_defined name r ≡ false → AllLayers r (c.region ∷ c.other ∷ []) → IsFormed r → IsFormed (choosing r name c)
 chosen_more r name c fresh ls h =
@@ -244,7 +244,7 @@ chosen_more r name c fresh ls h =
       selects = each_more (λ k t. IsSelectRule (r.names ++ n ∷ []) t) r.selects s g.selects (record {
         rule = n;
         there = get_last r.names n;
-        form = refl;
+        own = refl;
         before = (ls.0.below, ls.1.0.below);
         layers = (layer_kept r.names n (place_of c.region r) ls.0, layer_kept r.names n (place_of c.other r) ls.1.0);
       });
@@ -701,7 +701,7 @@ none_formed = record {
   near = All-nil _;
   readable = none_each _;
   selects = none_each _;
-  ascending = λ j k s t e f lt. absurd cc;
+  ascending = tt;
   keys = tt;
   outputs = none_each _;
   written = none_each _;

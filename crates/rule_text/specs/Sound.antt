@@ -5,7 +5,7 @@ use Rattle.std.specs.Prelude.{slice_get, Some}
 use Rattle.std.specs.List.{All}
 use Rattle.net_names.specs.Folding.{folded_bytes}
 use Rattle.geo_base.specs.Layers.{IsStreamKey}
-use Rattle.plain_netlist.specs.Lists.{AreApart}
+use Rattle.plain_netlist.specs.Lists.{AreApart, AreRising}
 use Rattle.rule_text.specs.declared.rules.LayerForm.{LayerForm}
 use Rattle.rule_text.specs.declared.rules.LayerForm.TheVariants as form
 use Rattle.rule_text.specs.declared.rules.LayerRule.{LayerRule}
@@ -44,14 +44,13 @@ IsReadable k _ = Unit {0}
 pub record IsSelectRule (names : List LayerRule) (s : SelectRule) : Type 0 where
   pub rule : LayerRule
   pub there : slice_get names s.name ≡ Some rule
-  pub form : rule.form ≡ form.Input (select_key s.name)
+  pub own : rule.form ≡ form.Input (select_key s.name)
   pub before : (s.region < s.name) × (s.other < s.name)
   pub layers : IsLayer names s.region × IsLayer names s.other
 
--- each selection's name stands behind those of the selections before it
-abbrev pub AreAscending : List SelectRule → Type 0
-AreAscending selects = (j k : ℕ) (s t : SelectRule) → slice_get selects j ≡ Some s
-    → slice_get selects k ≡ Some t → j < k → s.name < t.name
+-- the one's name stands before the other's
+abbrev pub IsNamedBefore : SelectRule → SelectRule → Type 0
+IsNamedBefore s t = s.name < t.name
 
 -- two names, of which one at most is a labels name
 pub record AreJoined (names : List LayerRule) (a b : ℕ) : Type 0 where
@@ -81,7 +80,7 @@ pub record IsFormed (r : Rules) : Type 0 where
   pub near : All (λ n. n ≤ MOST_REACH) (reaches r.names)
   pub readable : Each (λ k n. IsReadable k n.form) r.names
   pub selects : Each (λ k s. IsSelectRule r.names s) r.selects
-  pub ascending : AreAscending r.selects
+  pub ascending : AreRising IsNamedBefore r.selects
   pub keys : AreApart (map (λ o. o.key) r.outputs)
   pub outputs : Each (λ k o. IsLayer r.names o.layer) r.outputs
   pub written : Each (λ k o. IsStreamKey o.key) r.outputs

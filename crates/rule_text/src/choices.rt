@@ -1,9 +1,10 @@
 //! The statements that choose regions of a layer, by what they have with another or by their area.
 
-ghost use Rattle.std.specs.Prelude.{◌≡◌, ◌≤◌, IfSome};
+ghost use Rattle.std.specs.Prelude.{◌≡◌, ◌<◌, length, IfSome};
 ghost use Rattle.rule_lines.specs.Seen.{seen_all};
 ghost use Rattle.rule_text.specs.Choices.{relation_of, measure_of, range_of, relation_line};
 ghost use Rattle.rule_text.specs.Choices.{measure_line};
+ghost use Rattle.rule_text.specs.Rows.{word_at};
 ghost use Rattle.rule_text.specs.Rules.{choice_of};
 ghost use Rattle.rule_text.specs.Seen.{statement, statements};
 ghost use Rattle.rule_text.specs.Filled.{IsFilled};
@@ -84,7 +85,8 @@ fn measure_of(word: &[u8]) -> Option<bool>
 // The least area, and the least that is too great.
 #[tactic(auto, unfolding(crate::specs::Choices::range_of))]
 fn range_of(tokens: &[Token]) -> Option<(u64, Option<u64>)>
-    ensures { result ≡ range_of (seen_all tokens.now) }
+    ensures is { result ≡ range_of (seen_all tokens.now) }
+    ensures named { IfSome result (λ _. 0 < length (word_at 0 (seen_all tokens.now))) }
 {
     if fits(&AREA, tokens) {
         let area = area_at(tokens, 6).unwrap_or(0);
