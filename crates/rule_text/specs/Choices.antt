@@ -7,7 +7,7 @@ use Rattle.rule_text.specs.declared.rules.Ask.{Ask}
 use Rattle.rule_text.specs.declared.rules.Ask.TheVariants.{Interacting, Overlapping, Inside}
 use Rattle.rule_text.specs.declared.rules.Ask.TheVariants.{Outside, WithArea}
 use Rattle.rule_text.specs.Rows.{Slot, Fresh, Name, Area, Bound, Sign, EQUALS, DOT, OPEN, COMMA}
-use Rattle.rule_text.specs.Rows.{CLOSE, Choice, Statement, Choose, fits, word_at, area_at}
+use Rattle.rule_text.specs.Rows.{CLOSE, Statement, Choose, fits, word_at, area_at}
 
 -- N = A.WORD and what stands behind it
 abbrev pub call_row : List Slot → List Slot
