@@ -122,11 +122,11 @@ fn both_texts<R: Threads, G>(
     crew.both(drawing, || write_spice(alloc, netlist))
 }
 
-/// The netlist of a layout. It has a circuit for the top and for each reached cell
-/// with a good gate in or below it; its text is SPICE, with sizes in micrometres. The bad gates are
-/// those of all reached cells, the cells in the design's order. Nothing is flattened: a cell is
-/// worked once, however often it is placed. The answer is the same for every number of workers, of
-/// which there are 1 to 64. An `Err` is want of memory, or 2^32 circuits or nets of a cell. Cost:
+/// The netlist of a layout. It has a circuit for the top and for each reached cell with a good gate
+/// in or below it; its text is SPICE, with sizes in micrometres. The bad gates are those of all
+/// reached cells, the cells in the design's order. Nothing is flattened: a cell is worked once,
+/// however often it is placed. The answer is the same for every number of workers, of which there
+/// are 1 to 64. An `Err` is want of memory, or 2^32 circuits or nets of a cell. Cost:
 /// the layers, nets, gates, pins and circuit of each cell, and the bytes written.
 pub fn extract_netlist<R: Threads + Wait + Sync, G: Gate + Sync>(
     alloc: Global,
@@ -143,9 +143,9 @@ pub fn extract_netlist<R: Threads + Wait + Sync, G: Gate + Sync>(
 }
 
 /// The shapes file and the netlist of a layout for which a stream has room, as `extract_netlist`
-/// has it; or the first cell for which there is no shapes file. Two workers or more write both texts at once. An
-/// `Err` is want of memory, or 2^32 circuits or nets of a cell. Cost: that of `extract_netlist`,
-/// and the bytes written.
+/// has it; or the first cell for which there is no shapes file. Two workers or more write both
+/// texts at once. An `Err` is want of memory, or 2^32 circuits or nets of a cell. Cost: that of
+/// `extract_netlist`, and the bytes written.
 pub fn extract_files<R: Threads + Wait + Sync, G: Gate + Sync>(
     alloc: Global,
     layout: &Layout,

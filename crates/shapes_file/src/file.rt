@@ -38,11 +38,11 @@ pub enum Drawing {
     Wide(u32),
 }
 
-/// The shapes file of a layout for which a stream has room: the cells that the top reaches, each with its
-/// references and the squares that it holds itself of each output line of the rules. Nothing is
-/// flattened: a cell is worked once, however often it is placed. The answer is the same for every
-/// number of workers, of which there are 1 to 64. An `Err` is want of memory. Cost: the layers of
-/// each cell, and the bytes written.
+/// The shapes file of a layout for which a stream has room: the cells that the top reaches, each
+/// with its references and the squares that it holds itself of each output line of the rules.
+/// Nothing is flattened: a cell is worked once, however often it is placed. The answer is the same
+/// for every number of workers, of which there are 1 to 64. An `Err` is want of memory. Cost: the
+/// layers of each cell, and the bytes written.
 pub fn shapes_file<R: Threads + Wait + Sync, G: Gate + Sync>(
     alloc: Global,
     layout: &Layout,

@@ -19,9 +19,9 @@ pub fn writable()
     read_again();
 }
 
-/// What is written of a layout for which a stream has room is itself an accepted stream. Expanded through all its references,
-/// it covers on the layer of each output line exactly the unit squares that the line's name has
-/// over the flat layout, and none on any other layer.
+/// What is written of a layout for which a stream has room is itself an accepted stream. Expanded
+/// through all its references, it covers on the layer of each output line exactly the unit squares
+/// that the line's name has over the flat layout, and none on any other layer.
 pub fn covers_flat()
     ensures { CoversFlatLaw }
 {
