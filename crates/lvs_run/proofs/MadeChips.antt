@@ -289,8 +289,8 @@ chip_ready n seed prefix s r l nl o chip verdicts matches made =
           (schematic_read _ (schematic_at prefix) (ToChip n seed prefix) l r a made.done (schematic_text n seed) (schematic_in n seed prefix s chip.short_schematic) (SoundCards nl chip.schematic made.is));
       flat = tt;
       netlist = tt;
-      verdicts = report_of n seed prefix s r l nl (HasVerdicts a) made.done.files ran.spelled ran.report chip (verdicts (layout_text n seed) (Some (codes "TOP")) l r nl (length l.design.order) ran.spelled ran.report ran.counts a chip.layout.0 ran.reported);
-      matched = λ good. report_of n seed prefix s r l nl IsMatchOf made.done.files ran.spelled ran.report chip (matches (layout_text n seed) (Some (codes "TOP")) l r nl (length l.design.order) ran.spelled ran.report ran.counts a chip.layout.0 ran.reported good);
+      verdicts = report_of n seed prefix s r l nl (HasVerdicts a) made.done.files ran.spelled ran.report chip (verdicts l r nl (length l.design.order) ran.spelled ran.report ran.counts a ran.reported);
+      matched = λ good. report_of n seed prefix s r l nl IsMatchOf made.done.files ran.spelled ran.report chip (matches l r nl (length l.design.order) ran.spelled ran.report ran.counts a ran.reported good);
     }
 
 -- the top's name is one

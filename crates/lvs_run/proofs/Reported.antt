@@ -58,10 +58,10 @@ module _ (p : Paths) (old mid late new : Store) (r : Rules) (l : Layout) (nl : N
       (of_inputs p old mid late r l (λ (v : Layout) (q : Rules). P v q nl spelled report) quiet rules layout (f cells spelled report counts h))) made
 
   pub verdicts_beside : VerdictsLaw → IsDoneBeside p.outputs l r nl a done → ListsReport old.file p done.files (HasVerdicts a)
-  verdicts_beside law made = told_texts (HasVerdicts a) (λ cells spelled report counts h. law layout.bytes p.top l r nl cells spelled report counts a layout.is.0 h) made
+  verdicts_beside law made = told_texts (HasVerdicts a) (λ cells spelled report counts h. law l r nl cells spelled report counts a h) made
 
   pub matched_beside : MatchLaw → IsDoneBeside p.outputs l r nl a done → a ≡ Good → ListsReport old.file p done.files IsMatchOf
-  matched_beside law made good = told_texts IsMatchOf (λ cells spelled report counts h. law layout.bytes p.top l r nl cells spelled report counts a layout.is.0 h good) made
+  matched_beside law made good = told_texts IsMatchOf (λ cells spelled report counts h. law l r nl cells spelled report counts a h good) made
 
 -- a command that reads no schematic writes no report
 no_report : (o : Outputs) (l : Layout) (r : Rules) (a : Answer) (done : Done) (Q : List ℕ → List ℕ → List ℕ → Type 0) (C : List ℕ → Type 0) → IsDone o l r a done → ForReport o Q C

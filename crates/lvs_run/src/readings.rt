@@ -1,7 +1,8 @@
 //! The rules, the layout and the schematic of input files.
 
-ghost use Rattle.std.specs.Prelude.{◌≡◌, ℕ, List, Option, string_bytes, IfOk, IfErr};
+ghost use Rattle.std.specs.Prelude.{◌≡◌, string_bytes, IfOk, IfErr};
 ghost use Rattle.gds_layout.specs.Layouts.{IsRead};
+ghost use Rattle.layout_shapes.specs.Writable.{IsWritable};
 ghost use Rattle.lvs_outside.specs.Store.{HasRoom};
 ghost use Rattle.lvs_run.specs.Answers.{refused_layout, refused_rules, refused_schematic};
 ghost use Rattle.lvs_run.specs.Inputs.{Quiet, ReadAs, RefusesLayout, RefusesRules};
@@ -135,7 +136,7 @@ fn read_beside<R: Threads + Wait + Sync, G: Gate + Sync>(
     rules: &RuleSet,
     crew: &Crew<R, G>,
 ) -> (Result<Netlist, SpiceFault>, Result<Files, AllocError>)
-    requires read { (stream : List ℕ) × (top : Option (List ℕ)) × IsRead stream top layout.now }
+    requires layout { IsWritable layout.now }
     requires rules { IsSound (rules_seen rules.now) }
     ensures found { IfOk result.0 (λ nl. SpiceMeans read_limit bytes.items (plain_netlist nl)) }
     ensures sound { IfOk result.0 (λ nl. IsSoundNetlist (plain_netlist nl)) }
@@ -144,8 +145,7 @@ fn read_beside<R: Threads + Wait + Sync, G: Gate + Sync>(
     ensures files { IfOk result.1 (AreFiles layout.now (rules_seen rules.now)) }
 {
     let extraction = move || -> Result<Files, AllocError>
-        requires { ((stream : List ℕ) × (top : Option (List ℕ)) × IsRead stream top layout.now)
-            × IsSound (rules_seen rules.now) }
+        requires { IsWritable layout.now × IsSound (rules_seen rules.now) }
         ensures { IfOk result (AreFiles layout.entry.now (rules_seen rules.entry.now)) }
     { extract_files(alloc, layout, rules, crew) };
     crew.both(|| read_spice(alloc, bytes.as_slice()), extraction)
@@ -163,7 +163,7 @@ pub fn schematic_beside<R: Threads + Wait + Sync, D: Depot, G: Gate + Sync>(
     crew: &Crew<R, G>,
 ) -> Result<(Netlist, Files), Stop>
     requires room { HasRoom (D.state depot.old) }
-    requires read { (bytes : List ℕ) × (top : Option (List ℕ)) × IsRead bytes top layout.now }
+    requires layout { IsWritable layout.now }
     requires rules { IsSound (rules_seen rules.now) }
     ensures quiet { Quiet (D.state depot.old) (D.state depot.new) }
     ensures found { IfOk result (λ v. ReadAs (D.state depot.old) (D.state depot.new)

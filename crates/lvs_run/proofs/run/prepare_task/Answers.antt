@@ -35,10 +35,20 @@ returns-in_err-output-in-Layout-clause-stops g c =
     let alone = ap (λ (o : Code). schematic_path (outputs_of o)) c.in-Layout.is ∙ reads_none c.in-Layout.outputs in
     rw (e.1, e.2) (alone_stop p _ _ _ (rules_seen c.in_ok-rule_set.rule_set) c.in_ok-design.design (ap (λ o. option_map string_bytes o) c.in-None.is) (reads_files c.args.task.outputs) alone c.in_ok-rule_set.ensures.quiet rules layout _ c.in_err-output-in-Layout.ensures.refused)
 
+pub output_of-requires-clause-layout : goal.output_of-requires-clause-layout
+output_of-requires-clause-layout g c κs within =
+    let found = c.in_ok-design.ensures.found in
+    let fits = c.writable.ensures found.bytes _ c.in_ok-design.design found.is in fits.room
+
 pub output_of-requires-clause-apart : goal.output_of-requires-clause-apart
 output_of-requires-clause-apart g c κs within =
     let apart = ap (λ o. option_map string_bytes o) c.in-None.is in
     subst (λ (o : Code). AreApart (blank_files (outputs_of o))) c.in-Layout.is (c.requires.apart apart)
+
+pub compare-requires-clause-layout : goal.compare-requires-clause-layout
+compare-requires-clause-layout g c κs within =
+    let found = c.in_ok-design.ensures.found in
+    let fits = c.writable.ensures found.bytes _ c.in_ok-design.design found.is in fits.room
 
 pub compare-requires-clause-apart : goal.compare-requires-clause-apart
 compare-requires-clause-apart g c κs within =
@@ -56,7 +66,7 @@ returns-in-Layout-clause-ready g c =
     let made = subst (λ (o : Outputs). IsOutput o l r c.in_ok-output-in-Layout.output) (sym same) c.in_ok-output-in-Layout.ensures.made in
     let first = c.in_ok-rule_set.ensures in
     let then = c.in_ok-design.ensures in
-    ready_alone p _ _ _ r l c.in_ok-output-in-Layout.output apart (reads_files c.args.task.outputs) first.quiet first.found first.sound (in_way _ then.found (then.way ∙ c.way_of.ensures)) c.covers_flat.ensures c.flat_netlist.ensures made
+    ready_alone p _ _ _ r l c.in_ok-output-in-Layout.output apart (reads_files c.args.task.outputs) first.quiet first.found first.sound (in_way _ then.found (then.way ∙ c.way_of.ensures)) c.writable.ensures c.covers_flat.ensures c.flat_netlist.ensures made
 
 pub returns-clause-ready : goal.returns-clause-ready
 returns-clause-ready g c =
@@ -70,7 +80,7 @@ returns-clause-ready g c =
     let made = beside_as (outputs_of c.args.task.outputs) _ same c.in_ok-made-in-Report.ensures.made in
     let first = c.in_ok-rule_set.ensures in
     let then = c.in_ok-design.ensures in
-    ready_beside p _ _ _ _ r l path c.in_ok-made-in-Report.made apart (reads_files c.args.task.outputs) beside first.quiet then.quiet first.found first.sound (in_way _ then.found (then.way ∙ c.way_of.ensures)) c.covers_flat.ensures c.flat_netlist.ensures c.compared_laws.ensures.verdicts c.compared_laws.ensures.matched made
+    ready_beside p _ _ _ _ r l path c.in_ok-made-in-Report.made apart (reads_files c.args.task.outputs) beside first.quiet then.quiet first.found first.sound (in_way _ then.found (then.way ∙ c.way_of.ensures)) c.writable.ensures c.covers_flat.ensures c.flat_netlist.ensures c.compared_laws.ensures.verdicts c.compared_laws.ensures.matched made
 
 pub returns-in_err-made-in-Report-clause-stops : goal.returns-in_err-made-in-Report-clause-stops
 returns-in_err-made-in-Report-clause-stops g c =
