@@ -12,6 +12,7 @@ mod extents;
 mod finishing;
 mod heights;
 mod indexes;
+mod layering;
 mod linking;
 mod names;
 mod ordering;
