@@ -52,11 +52,11 @@ place_some P (y ∷ xs) (suc k) x e p = inr (place_some P xs k x e p)
 
 -- keys
 
-has_listed : (keys : List LayerKey) (key : LayerKey) → has_key keys key ≡ true → IsListed key keys
+pub has_listed : (keys : List LayerKey) (key : LayerKey) → has_key keys key ≡ true → IsListed key keys
 has_listed [] key e = absurd (false≢true e)
 has_listed (k ∷ keys) key e = elim (or_cases (is_same_key k key) (has_key keys key) e) [ inl a ↦ inl (sym (key_same k key a)) | inr b ↦ inr (has_listed keys key b) ]
 
-key_of : (ss : List Stage) (key : LayerKey) → IsListed key (stage_keys ss) → IsKeyOf ss key
+pub key_of : (ss : List Stage) (key : LayerKey) → IsListed key (stage_keys ss) → IsKeyOf ss key
 key_of [] key h = h
 key_of (s ∷ ss) key (inl e) = inl (sym e)
 key_of (s ∷ ss) key (inr h) = inr (key_of ss key h)

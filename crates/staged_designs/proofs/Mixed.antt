@@ -75,7 +75,7 @@ off_key key other q differ l h = elim (key_is l.key key) [
   | inr e ↦ e
 ]
 
-abbrev mixed : LayerKey → List Cell → List Cell → List Cell
+abbrev pub mixed : LayerKey → List Cell → List Cell → List Cell
 mixed key [] ps = []
 mixed key (c ∷ cs) [] = []
 mixed key (c ∷ cs) (p ∷ ps) = record { name = c.name; layers = filter (is_key key) p.layers ++ filter (isnt_key key) c.layers; texts = c.texts; places = c.places } ∷ mixed key cs ps
@@ -137,7 +137,7 @@ module _ (d e : Design) (alike : AreAlike d e) (key : LayerKey) where
     (λ h. let r = mixed_of cell h.0 h.1 in (mix key h.0 r.0, r.2, h.2)),
   )
 
-  mixed_other : (cell : ℕ) (other : LayerKey) (q : Square) → (other ≡ key → ⊥) → IsOwn m cell other q ↔ IsOwn d cell other q
+  pub mixed_other : (cell : ℕ) (other : LayerKey) (q : Square) → (other ≡ key → ⊥) → IsOwn m cell other q ↔ IsOwn d cell other q
   mixed_other cell other q differ = (
     (λ h.
         let a = at_mixed key d.cells e.cells cell h.0 h.1 in
@@ -158,7 +158,7 @@ module _ (d e : Design) (alike : AreAlike d e) (key : LayerKey) where
         )),
   )
 
-  mixed_key : (cell : ℕ) (q : Square) → IsOwn m cell key q ↔ IsOwn e cell key q
+  pub mixed_key : (cell : ℕ) (q : Square) → IsOwn m cell key q ↔ IsOwn e cell key q
   mixed_key cell q = (
     (λ h.
         let a = at_mixed key d.cells e.cells cell h.0 h.1 in
