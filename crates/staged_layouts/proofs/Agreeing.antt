@@ -1,5 +1,5 @@
 -- Designs with the layers of the same selections over one design have the same squares.
-use Rattle.std.proofs.Common.{◌≡◌, ◌↔◌, inl, inr, ℕ, List, [], ◌∷◌, sym, subst, true, refl}
+use Rattle.std.proofs.Common.{◌≡◌, ◌↔◌, inl, inr, ℕ, List, [], ◌∷◌, sym, subst, true, false, refl}
 use Rattle.base_laws.proofs.Tests.{not_both}
 use Rattle.flat_layout.specs.Layout.{Design, IsOwn, IsReached, Leads, Some_of}
 use Rattle.geo_base.specs.Layers.{is_same_key}
