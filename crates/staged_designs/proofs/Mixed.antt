@@ -120,7 +120,7 @@ pub record Holds (d e : Design) (ss : List Stage) : Type 0 where
 
 module _ (d e : Design) (alike : AreAlike d e) (key : LayerKey) where
   abbrev m : Design
-  m = record { cells = mixed key d.cells e.cells; top = d.top }
+  m = record { cells = mixed key d.cells e.cells; top = d.top; way = d.way }
 
   mixed_of : (cell : ℕ) (c : Cell) → slice_get d.cells cell ≡ Some c → (p : Cell) × (slice_get e.cells cell ≡ Some p) × (slice_get m.cells cell ≡ Some (mix key c p))
   mixed_of cell c at = let p = at_too d.cells e.cells cell c alike.count at in (p.0, p.1, mixed_at key d.cells e.cells cell c p.0 at p.1)
@@ -223,7 +223,7 @@ staged (t ∷ ts) s d e free apart h = (
 )
   where
     middle : Design
-    middle = record { cells = mixed s.key d.cells e.cells; top = d.top }
+    middle = record { cells = mixed s.key d.cells e.cells; top = d.top; way = d.way }
 
     same : IsSameElse d middle s.key
     same = mixed_same d e h.alike s.key
