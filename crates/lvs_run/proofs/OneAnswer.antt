@@ -3,8 +3,8 @@ use Rattle.std.proofs.Common.{◌≡◌, ◌≢◌, inl, inr, ℕ, List, length,
 use Rattle.lvs_outside.specs.Store.{Told, Untold, NoFile, Holds}
 use Rattle.gds_layout.specs.declared.layout.LayoutFault.{LayoutFault}
 use Rattle.gds_layout.specs.declared.layout.LayoutFault.TheVariants as layout
-use Rattle.gds_layout.specs.Layouts.{IsFaultOf}
-use Rattle.gds_layout.specs.Once.{IsAlike, NoFaultLaw, OneFaultLaw, OneLayoutLaw}
+use Rattle.gds_layout.specs.Once.{IsAlike}
+use Rattle.run_layout.specs.RunLayout.{IsRunFault, NoRunFaultLaw, OneRunFaultLaw, OneRunLayoutLaw}
 use Rattle.report_file.proofs.Combined.{compared_alignable, compared_order}
 use Rattle.report_file.specs.Combined.{CombinedAlignableLaw, compared_of, wide_name}
 use Rattle.report_file.specs.One.{OneReportLaw}
@@ -35,9 +35,9 @@ use Rattle.lvs_run.proofs.Widths.{never_written}
 use Rattle.lvs_run.specs.Once.{IsTold, AreInputsTold, IsSameOutcome, OneOutcomeLaw}
 
 -- a first fault is a fault, and no want of memory
-fault_of : (bytes : List ℕ) (top : Option (List ℕ)) (f : LayoutFault) → IsFirstLayoutFault bytes top f → IsFaultOf bytes top f × (f ≢ layout.NoMemory)
-fault_of bytes top layout.NoMemory h = absurd h
-fault_of bytes top f h = (h, λ e. cc)
+fault_of : (bytes : List ℕ) (top : Option (List ℕ)) (r : Rules) (f : LayoutFault) → IsFirstLayoutFault bytes top r f → IsRunFault bytes top r f × (f ≢ layout.NoMemory)
+fault_of bytes top r layout.NoMemory h = absurd h
+fault_of bytes top r f h = (h, λ e. cc)
 
 same_drawn : (path : List ℕ) (l m : Layout) (r : Rules) (x y : Done) → (h : IsDrawn l r path x) → (k : IsDrawn m r path y)
     → IsSameFile h.text k.text h.cells k.cells h.rectangles k.rectangles → x ≡ y
@@ -81,8 +81,8 @@ same_counts n m one other pairs others bad its_bad e f g h =
     ∙ ap (λ (bs : List BadGate). Compared m (length other.circuits) others (length bs)) h))
 
 -- by the laws of the readers, of shapes files, of netlist files and of reports
-module _ (meanings : MeaningLaw) (faults : FaultLaw) (no_faults : NoFaultLaw) (one_faults : OneFaultLaw) (files : OneFileLaw) (wides : OneWideLaw) (no_file : NoFileLaw) (netlists : OneNetlistLaw) (orders : OneOrderLaw)
-    (layouts : OneLayoutLaw) (schematics : OneMeaningLaw) (no_cards : SpiceNoFaultLaw) (reports : OneReportLaw) (alignable : CombinedAlignableLaw) where
+module _ (meanings : MeaningLaw) (faults : FaultLaw) (no_faults : NoRunFaultLaw) (one_faults : OneRunFaultLaw) (files : OneFileLaw) (wides : OneWideLaw) (no_file : NoFileLaw) (netlists : OneNetlistLaw) (orders : OneOrderLaw)
+    (layouts : OneRunLayoutLaw) (schematics : OneMeaningLaw) (no_cards : SpiceNoFaultLaw) (reports : OneReportLaw) (alignable : CombinedAlignableLaw) where
   -- two runs with one refusal
   refused_once : (w a b : Answer) (x y : Done) → (IsVerdict w → ⊥) → a ≡ w → b ≡ w → IsSameOutcome a b x y
   refused_once w a b x y never e f = record { answer = e ∙ sym f; done = λ v. absurd (never (subst IsVerdict e v)) }
@@ -255,12 +255,12 @@ module _ (meanings : MeaningLaw) (faults : FaultLaw) (no_faults : NoFaultLaw) (o
 
   on_stream : (bytes : List ℕ) (file : List ℕ → Told) (p : Paths) (r : Rules) (a b : Answer) (x y : Done) → IfSome (schematic_path p.outputs) (λ path. IsTold (file path)) → OfStream bytes file p r a x → OfStream bytes file p r b y → IsSameOutcome a b x y
   on_stream bytes file p r a b x y told (FaultyStream f h e) (FaultyStream g k d) =
-      let one = fault_of bytes p.top f h in
-      let two = fault_of bytes p.top g k in
-      refused_once (RefusedLayout f) a b x y (λ v. v) e (d ∙ ap (λ (z : LayoutFault). RefusedLayout z) (one_faults bytes p.top g f two.0 one.0 two.1 one.1))
-  on_stream bytes file p r a b x y told (FaultyStream f h e) (SoundStream l read made) = let one = fault_of bytes p.top f h in absurd (one.1 (no_faults bytes p.top l f read.0 one.0))
-  on_stream bytes file p r a b x y told (SoundStream l read made) (FaultyStream f h e) = let one = fault_of bytes p.top f h in absurd (one.1 (no_faults bytes p.top l f read.0 one.0))
-  on_stream bytes file p r a b x y told (SoundStream l read made) (SoundStream m found done) = on_beside (schematic_path p.outputs) file p.outputs l m r a b x y told (record { same = layouts bytes p.top l m read.0 found.0; way = read.1 ∙ sym found.1 }) made done
+      let one = fault_of bytes p.top r f h in
+      let two = fault_of bytes p.top r g k in
+      refused_once (RefusedLayout f) a b x y (λ v. v) e (d ∙ ap (λ (z : LayoutFault). RefusedLayout z) (one_faults bytes p.top r g f two.0 one.0 two.1 one.1))
+  on_stream bytes file p r a b x y told (FaultyStream f h e) (SoundStream l read made) = let one = fault_of bytes p.top r f h in absurd (one.1 (no_faults bytes p.top r l f read one.0))
+  on_stream bytes file p r a b x y told (SoundStream l read made) (FaultyStream f h e) = let one = fault_of bytes p.top r f h in absurd (one.1 (no_faults bytes p.top r l f read one.0))
+  on_stream bytes file p r a b x y told (SoundStream l read made) (SoundStream m found done) = on_beside (schematic_path p.outputs) file p.outputs l m r a b x y told (layouts bytes p.top r l m read found) made done
 
   on_layout : (t : Told) (file : List ℕ → Told) (r : Rules) (p : Paths) (a b : Answer) (x y : Done) → IsTold t → IfSome (schematic_path p.outputs) (λ path. IsTold (file path)) → OfLayout t file r p a x → OfLayout t file r p b y → IsSameOutcome a b x y
   on_layout Untold file r p a b x y told last h k = absurd told

@@ -32,9 +32,9 @@ use lvs_outside::{Depot, Sink, write_all, write_files};
 use lvs_words::WordFault;
 use netlist_file::flat_netlist;
 use report_file::read_alignable;
-use rule_layers::way_of;
 use rule_text::RuleSet;
-use shapes_file::{covers_flat, writable};
+use run_layout::run_layouts;
+use shapes_file::covers_flat;
 use std::alloc::Global;
 use std::sync::Wait;
 use std::thread::Threads;
@@ -85,7 +85,7 @@ fn prepare_task<R: Threads + Wait + Sync, D: Depot, G: Gate + Sync>(
     ensures stops { IfErr result (λ why. Stops (Some (paths_of task)) (D.state depot.old)
         (D.state depot.new) (stopped why)) }
 {
-    writable();
+    run_layouts();
     covers_flat();
     flat_netlist();
     compared_laws();
@@ -102,8 +102,8 @@ fn prepare_task<R: Threads + Wait + Sync, D: Depot, G: Gate + Sync>(
         None => {}
     }
     let rule_set = rules_of(alloc, depot, &rules)?;
-    let design = layout_of(alloc, depot, &layout, &top, way_of(&rule_set))?;
     let crew = Crew::new(rt, workers, gate);
+    let design = layout_of(alloc, depot, &layout, &top, &rule_set, &crew)?;
     match outputs {
         Outputs::Layout(outputs) => {
             let output = output_of(alloc, &design, &rule_set, outputs, &crew)?;
