@@ -59,23 +59,23 @@ some_covers (r ∷ rects) q (inl h) = or_left (has r q) (covers rects q) (in_has
 some_covers (r ∷ rects) q (inr h) = or_right (has r q) (covers rects q) (some_covers rects q h)
 
 -- same keys
-key_is : (a b : LayerKey) → (is_same_key a b ≡ true) ⊎ (is_same_key a b ≡ false)
+pub key_is : (a b : LayerKey) → (is_same_key a b ≡ true) ⊎ (is_same_key a b ≡ false)
 key_is a b = bool_is (is_same_key a b)
   where
     bool_is : (c : Bool) → (c ≡ true) ⊎ (c ≡ false)
     bool_is true = inl refl
     bool_is false = inr refl
 
-key_same : (a b : LayerKey) → is_same_key a b ≡ true → a ≡ b
+pub key_same : (a b : LayerKey) → is_same_key a b ≡ true → a ≡ b
 key_same a b h =
     let x : a.layer ≡ b.layer = grind arith in
     let y : a.datatype ≡ b.datatype = grind arith in
     ap (λ (v : ℕ). let k : LayerKey = record { layer = v; datatype = a.datatype } in k) x ∙ ap (λ (v : ℕ). let k : LayerKey = record { layer = b.layer; datatype = v } in k) y
 
-key_own : (a : LayerKey) → is_same_key a a ≡ true
+pub key_own : (a : LayerKey) → is_same_key a a ≡ true
 key_own a = grind arith
 
-key_other : (a b : LayerKey) → is_same_key a b ≡ false → a ≡ b → ⊥
+pub key_other : (a b : LayerKey) → is_same_key a b ≡ false → a ≡ b → ⊥
 key_other a b h e = let f : is_same_key a b ≡ true = subst (λ k. is_same_key a k ≡ true) e (key_own a) in let z : ⊥ = cc in z
 
 abbrev IsOn : LayerKey → Square → flat.Layer → Type 0

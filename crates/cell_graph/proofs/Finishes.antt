@@ -26,7 +26,7 @@ nothing_finished drafts all bounds heights = record {
   later = λ k part le e. e;
 }
 
-set_other : {A : Type 0} (xs : List A) (i k : ℕ) (x : A) → (i ≡ k → ⊥) → slice_get (set xs i x) k ≡ slice_get xs k
+pub set_other : {A : Type 0} (xs : List A) (i k : ℕ) (x : A) → (i ≡ k → ⊥) → slice_get (set xs i x) k ≡ slice_get xs k
 set_other [] i k x not = refl
 set_other (y ∷ xs) zero zero x not = absurd (not refl)
 set_other (y ∷ xs) zero (suc k) x not = refl

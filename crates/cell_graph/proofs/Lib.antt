@@ -26,3 +26,6 @@ pub mod Sweeping
 pub mod Indexing
 pub mod Windows
 pub mod Ways
+pub mod Relinking
+pub mod LayeredDrafts
+pub mod LayeredNames

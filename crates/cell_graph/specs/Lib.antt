@@ -18,3 +18,4 @@ pub mod Extents
 pub mod Finished
 pub mod Spans
 pub mod Indexes
+pub mod Layering

@@ -90,6 +90,21 @@ impl Design {
         })
     }
 
+    /// The cells by themselves.
+    pub(crate) fn into_cells(self) -> Vec<CellPart>
+        ensures { result.items ≡ self.cells }
+    {
+        let Design {
+            cells,
+            top: _,
+            order: _,
+            nothing: _,
+            indexes: _,
+            way: _,
+        } = self;
+        cells
+    }
+
     /// What each design promises; among it, that each hull is the least range of what stands in and
     /// below its cell.
     pub fn sound(&self)

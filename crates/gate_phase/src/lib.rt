@@ -36,8 +36,10 @@ mod work;
 
 pub use both::BothLayer;
 pub use bulks::{Grounds, device_grounds};
+pub use close::{close_to, misses};
 pub use device::{Device, Region, device_at, device_count};
 pub use entries::entry_laws;
+pub use frame::plane;
 pub use indexes::IndexedLayers;
 pub use kept::{kept_in, kept_rects};
 pub use layer::KeptLayer;

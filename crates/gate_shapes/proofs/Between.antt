@@ -15,7 +15,8 @@ use Rattle.gate_shapes.specs.Plain.{corner}
 use Rattle.gate_shapes.specs.Sets.{in_set}
 use Rattle.gate_shapes.specs.Shapes.{AreKept, IsGood, sheets_of}
 use Rattle.gate_shapes.specs.declared.shape.GateForm.{GateForm}
-use Rattle.gate_shapes.proofs.Joined.{edge_back, walk}
+use Rattle.flat_laws.proofs.Squares.{edge_back}
+use Rattle.gate_shapes.proofs.Joined.{walk}
 use Rattle.gate_shapes.proofs.Judging.{AreJudged, good_law}
 use Rattle.gate_shapes.proofs.PartsOf.{least_of, one_least}
 use Rattle.gate_shapes.proofs.Strips.{one_has, has_one, two_have, has_first, has_second}

@@ -1,4 +1,4 @@
--- The classes of linked rectangles cover the edge-connected parts.
+-- The classes of linked rectangles cover the regions.
 use Rattle.std.proofs.Common.{◌≡◌, ◌⊎◌, ◌↔◌, inl, inr, ℕ, ◌+◌, ◌<◌, List, [], ◌∷◌, ◌++◌, Some, None, length, get_or, take, refl, length-append, sym, ◌∙◌, ap, subst, arith}
 use Rattle.std.specs.Prelude.{slice_get, Vec}
 use Rattle.std.specs.Global.{Global}
@@ -16,9 +16,10 @@ use Rattle.rect_sets.specs.Rects.{covers, IsBelow, AreAbove, IsOrdered, IsListed
 use Rattle.rect_sets.proofs.Blocking.{listed_covers, covers_listed}
 use Rattle.rect_sets.proofs.Splitting.{IsInside, inside_from}
 use Rattle.rect_sets.proofs.Unique.{all_rects, rect_of}
-use Rattle.flat_layout.specs.Parts.{IsStep, InPart}
+use Rattle.flat_layout.specs.Parts.{Joint, Edges, IsStep, InRegion}
+use Rattle.flat_laws.proofs.Joints.{last_in}
 use Rattle.gate_shapes.specs.Contacts.{AreContacts}
-use Rattle.gate_shapes.specs.PartLists.{AreParts, members}
+use Rattle.gate_shapes.specs.PartLists.{AreRegions, members}
 use Rattle.flat_layout.specs.Parts.{IsLeast}
 use Rattle.flat_layout.specs.Plane.{IsSquareBefore}
 use Rattle.gate_shapes.specs.Sets.{in_set}
@@ -78,10 +79,9 @@ least_to : (a b : List Rect) (s : Square) → ((q : Square) → covers a q ≡ c
 least_to a b s same h = record { has = sym (same s) ∙ h.has; least = λ q e. h.least q (same q ∙ e) }
 
 pub end_in : (S : Square → Type 0) (p q : Square) (via : List Square) → S p → IsChain (IsStep S) p via q → S q
-end_in S p q [] h chain = subst (λ (v : Square). S v) chain h
-end_in S p q (x ∷ via) h chain = end_in S x q via chain.0.to chain.1
+end_in S p q via h chain = last_in Edges S p q via h chain
 
-module _ (rects : List Rect) (good : IsCanonical rects) (links : List Link) (are : AreContacts rects links) (n count : ℕ) (cs : List ℕ) (long : n ≡ length rects) (classes : AreClasses n links cs count) where
+module _ (joint : Joint) (rects : List Rect) (good : IsCanonical rects) (links : List Link) (are : AreContacts joint rects links) (n count : ℕ) (cs : List ℕ) (long : n ≡ length rects) (classes : AreClasses n links cs count) where
   rect_at : (r : Rect) → IsListed r rects → IsRect r
   rect_at r l = rect_of (covers rects) r ((good.each r).0 l)
 
@@ -124,7 +124,7 @@ module _ (rects : List Rect) (good : IsCanonical rects) (links : List Link) (are
       subst (λ (ms : List Rect). IsLeast (in_set ms) (corner first)) (sym h.is)
       (least_of first rest (subst (λ (ms : List Rect). IsOrdered ms) h.is (ordered_members x cs rects good.ordered)) (λ s l. member_rect x s (subst (λ (ms : List Rect). IsListed s ms) (sym h.is) l)))
 
-  same_part : (x : ℕ) (first : Rect) (rest : List Rect) → IsFirst x first rest → (q : Square) → in_set (members x cs rects) q ↔ InPart (in_set rects) (corner first) q
+  same_part : (x : ℕ) (first : Rect) (rest : List Rect) → IsFirst x first rest → (q : Square) → in_set (members x cs rects) q ↔ InRegion joint (in_set rects) (corner first) q
   same_part x first rest h q =
       let l = listed_at rects h.place first h.rect in
       let inside = corner_in first (rect_at first l) in
@@ -134,12 +134,12 @@ module _ (rects : List Rect) (good : IsCanonical rects) (links : List Link) (are
             let s = covers_listed (members x cs rects) q e in
             let p = member_place x cs rects s.one s.listed in
             let way = (classes.joined h.place p.0 (below h.place first h.rect) (below p.0 s.one p.1.rect)).0 (px ∙ sym (class_at p.0 x p.1.class)) in
-            record { from = start; joined = squares_joined rects good links are h.place p.0 first s.one (corner first) q h.rect p.1.rect inside (inside_from s.one q s.inside) way }),
+            record { from = start; joined = squares_joined rects joint good links are h.place p.0 first s.one (corner first) q h.rect p.1.rect inside (inside_from s.one q s.inside) way }),
         (λ g.
-            let here = end_in (in_set rects) (corner first) q g.joined.via start g.joined.chain in
+            let here = last_in joint (in_set rects) (corner first) q g.joined.via start g.joined.chain in
             let s = covers_listed rects q here in
             let j = place_of rects s.one s.listed in
-            let way = places_joined rects good links are h.place j.0 first s.one (corner first) q h.rect j.1 inside (inside_from s.one q s.inside) g.joined in
+            let way = places_joined rects joint good links are h.place j.0 first s.one (corner first) q h.rect j.1 inside (inside_from s.one q s.inside) g.joined in
             let same = (classes.joined h.place j.0 (below h.place first h.rect) (below j.0 s.one j.1)).1 way in
             let e : slice_get cs j.0 ≡ Some x = at_class j.0 s.one j.1 ∙ ap (λ (k : ℕ). Some k) (sym same ∙ px) in
             listed_covers (members x cs rects) q s.one (place_member x cs rects s.one j.0 e j.1) s.inside),
@@ -186,7 +186,7 @@ module _ (rects : List Rect) (good : IsCanonical rects) (links : List Link) (are
         let f = used x c.0 in
         (f.0, f.1, f.2, least_to (members x cs rects) part (corner f.0) (λ q. sym (c.1 q)) (least_first x f.0 f.1 f.2))
 
-    pub parts_law : AreParts rects sets
+    pub parts_law : AreRegions joint rects sets
     parts_law = record {
       each = λ x part e.
           let c = covers_members x part e in

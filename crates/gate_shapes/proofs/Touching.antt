@@ -12,6 +12,7 @@ use Rattle.std.proofs.lemmas.Option.{slice_get_within, slice_get-get_or, get_or_
 use Rattle.std.specs.List.{Contains}
 use Rattle.std.specs.List.Sorted.{IsPermutation}
 use Rattle.std.specs.Ordering.{int_eq}
+use Rattle.flat_layout.specs.Parts.{Joint, Edges, Corners}
 use Rattle.geo_base.specs.declared.shapes.Rect.{Rect}
 use Rattle.geo_base.specs.declared.shapes.Square.{Square}
 use Rattle.link_classes.specs.Classes.{IsLinked, AreInRange}
@@ -19,7 +20,7 @@ use Rattle.link_classes.specs.declared.classes.Link.{Link}
 use Rattle.rect_sets.specs.Rects.{covers, IsRun, IsBlock, IsBelow, AreAbove, IsOrdered, IsListed, IsCanonical}
 use Rattle.rect_sets.proofs.Splitting.{shared_block}
 use Rattle.gate_shapes.specs.declared.contacts.Top.{Top}
-use Rattle.gate_shapes.specs.Contacts.{crosses, is_over, ends_first, IsOver, tops_from, found, IsNotLater, AreSortedTops, IsContact, AreContacts, ContactsSoFar, AreTops}
+use Rattle.gate_shapes.specs.Contacts.{crosses, is_over, ends_first, IsUpTo, IsOver, tops_from, found, IsNotLater, AreSortedTops, IsContact, AreContacts, ContactsSoFar, AreTops}
 
 -- places of a list
 
@@ -81,7 +82,7 @@ row_apart set r s y h g a b c d =
     (λ one. absurd (clash set y r.x1 r.x2 s.x1 s.x2 u v (omega (arith, ints))))))
 
 -- lower sides in order
-rows_ahead : (rects : List Rect) (a b : ℕ) (r s : Rect) → IsCanonical rects → a < b → slice_get rects a ≡ Some r → slice_get rects b ≡ Some s → (r.y1 <ℤ s.y1) ⊎ ((r.y1 ≡ s.y1) × (r.x2 ≤ℤ s.x1))
+rows_ahead : (rects : List Rect) (a b : ℕ) (r s : Rect) → IsCanonical rects → a < b → slice_get rects a ≡ Some r → slice_get rects b ≡ Some s → (r.y1 <ℤ s.y1) ⊎ ((r.y1 ≡ s.y1) × (r.x2 <ℤ s.x1))
 rows_ahead rects a b r s h lt e f =
     let br = (h.each r).0 (listed_at rects a r e) in
     let bs = (h.each s).0 (listed_at rects b s f) in
@@ -197,14 +198,23 @@ range_both : (n : ℕ) (xs ys : List Link) → AreInRange n xs → AreInRange n 
 range_both n [] ys h g = g
 range_both n (l ∷ xs) ys h g = (h.0, h.1, range_both n xs ys h.2 g)
 
-over_from : (a b : Rect) → is_over a b ≡ true → IsOver a b
-over_from a b e =
-    let p = and_parts (int_eq a.y2 b.y1) (crosses a b) e in
+up_to_no_more : (j : Joint) (a b : ℤ) → IsUpTo j a b → a ≤ℤ b
+up_to_no_more Edges a b h = omega (arith, ints)
+up_to_no_more Corners a b h = h
+
+over_from : (j : Joint) (a b : Rect) → is_over j a b ≡ true → IsOver j a b
+over_from Edges a b e =
+    let p = and_parts (int_eq a.y2 b.y1) (crosses Edges a b) e in
     let q = and_parts (int_lt a.x1 b.x2) (int_lt b.x1 a.x2) p.1 in
     record { row = (Decides-int_eq a.y2 b.y1).0 p.0; left = lt_from a.x1 b.x2 q.0; right = lt_from b.x1 a.x2 q.1 }
+over_from Corners a b e =
+    let p = and_parts (int_eq a.y2 b.y1) (crosses Corners a b) e in
+    let q = and_parts (int_le a.x1 b.x2) (int_le b.x1 a.x2) p.1 in
+    record { row = (Decides-int_eq a.y2 b.y1).0 p.0; left = le_from a.x1 b.x2 q.0; right = le_from b.x1 a.x2 q.1 }
 
-over_to : (a b : Rect) → IsOver a b → is_over a b ≡ true
-over_to a b h = let x = h.row in let y = h.left in let z = h.right in grind (arith, ints, Decides-int_eq a.y2 b.y1)
+over_to : (j : Joint) (a b : Rect) → IsOver j a b → is_over j a b ≡ true
+over_to Edges a b h = let x = h.row in let y = h.left in let z = h.right in grind (arith, ints, Decides-int_eq a.y2 b.y1)
+over_to Corners a b h = let x = h.row in let y = h.left in let z = h.right in grind (arith, ints, Decides-int_eq a.y2 b.y1)
 
 first_from : (a b : Rect) → ends_first a b ≡ true → (a.y2 <ℤ b.y1) ⊎ ((a.y2 ≡ b.y1) × (a.x2 ≤ℤ b.x2))
 first_from a b e = elim (or_cases (int_lt a.y2 b.y1) (int_eq a.y2 b.y1 && int_le a.x2 b.x2) e) [
@@ -230,69 +240,69 @@ first_not a b e =
 
 -- the walk
 
-pub contacts_none : (rects : List Rect) (tops : List Top) → ContactsSoFar rects tops 0 0 []
-contacts_none rects tops = record { sound = λ x y h. absurd h; inside = tt; seen = λ a b t s e f w over. absurd (elim w [ inl lt ↦ omega arith | inr lt ↦ omega arith ]) }
+pub contacts_none : (j : Joint) (rects : List Rect) (tops : List Top) → ContactsSoFar j rects tops 0 0 []
+contacts_none j rects tops = record { sound = λ x y h. absurd h; inside = tt; seen = λ a b t s e f w over. absurd (elim w [ inl lt ↦ omega arith | inr lt ↦ omega arith ]) }
 
 same_some : {A : Type 0} (xs : List A) (a : ℕ) (s t : A) → slice_get xs a ≡ Some s → slice_get xs a ≡ Some t → s ≡ t
 same_some xs a s t e f = let g : Some s ≡ Some t = sym e ∙ f in cc
 
-module _ (rects : List Rect) (tops : List Top) (good : IsCanonical rects) (are : AreTops rects tops) (i j : ℕ) (links : List Link) (far : ContactsSoFar rects tops i j links)
+module _ (joint : Joint) (rects : List Rect) (tops : List Top) (good : IsCanonical rects) (are : AreTops rects tops) (i j : ℕ) (links : List Link) (far : ContactsSoFar joint rects tops i j links)
     (t : Top) (r : Rect) (at_i : slice_get tops i ≡ Some t) (at_j : slice_get rects j ≡ Some r) where
   abbrev new : List Link
-  new = links ++ found t r j
+  new = links ++ found joint t r j
 
   abbrev link : Link
   link = record { one = t.index; other = j }
 
-  here : IsOver t.rect r → IsLinked new t.index j
+  here : IsOver joint t.rect r → IsLinked new t.index j
   here over =
-      let e : found t r j ≡ link ∷ [] = ap (λ (b : Bool). if b then (link ∷ []) else []) (over_to t.rect r over) in
-      linked_right links (found t r j) t.index j (subst (λ (ls : List Link). IsLinked ls t.index j) (sym e) (inl (inl (refl, refl))))
+      let e : found joint t r j ≡ link ∷ [] = ap (λ (b : Bool). if b then (link ∷ []) else []) (over_to joint t.rect r over) in
+      linked_right links (found joint t r j) t.index j (subst (λ (ls : List Link). IsLinked ls t.index j) (sym e) (inl (inl (refl, refl))))
 
-  contact : IsOver t.rect r → IsContact rects t.index j
+  contact : IsOver joint t.rect r → IsContact joint rects t.index j
   contact over = record { one = t.rect; other = r; first = are.each i t at_i; second = at_j; over = over }
 
-  sound_found : (x y : ℕ) → IsLinked (found t r j) x y → IsContact rects x y ⊎ IsContact rects y x
-  sound_found x y h = elim (cases_Bool (is_over t.rect r)) [
+  sound_found : (x y : ℕ) → IsLinked (found joint t r j) x y → IsContact joint rects x y ⊎ IsContact joint rects y x
+  sound_found x y h = elim (cases_Bool (is_over joint t.rect r)) [
     | inl e ↦
-        let over = contact (over_from t.rect r e) in
-        let f : found t r j ≡ link ∷ [] = ap (λ (b : Bool). if b then (link ∷ []) else []) e in
+        let over = contact (over_from joint t.rect r e) in
+        let f : found joint t r j ≡ link ∷ [] = ap (λ (b : Bool). if b then (link ∷ []) else []) e in
         elim (subst (λ (ls : List Link). IsLinked ls x y) f h) [
           | inl o ↦ elim o [
-            | inl p ↦ inl (subst (λ (v : ℕ). IsContact rects x v) p.1 (subst (λ (v : ℕ). IsContact rects v j) p.0 over))
-            | inr p ↦ inr (subst (λ (v : ℕ). IsContact rects y v) p.1 (subst (λ (v : ℕ). IsContact rects v j) p.0 over))
+            | inl p ↦ inl (subst (λ (v : ℕ). IsContact joint rects x v) p.1 (subst (λ (v : ℕ). IsContact joint rects v j) p.0 over))
+            | inr p ↦ inr (subst (λ (v : ℕ). IsContact joint rects y v) p.1 (subst (λ (v : ℕ). IsContact joint rects v j) p.0 over))
           ]
           | inr none ↦ absurd none
         ]
-    | inr e ↦ (let f : found t r j ≡ [] = ap (λ (b : Bool). if b then (link ∷ []) else []) e in absurd (subst (λ (ls : List Link). IsLinked ls x y) f h))
+    | inr e ↦ (let f : found joint t r j ≡ [] = ap (λ (b : Bool). if b then (link ∷ []) else []) e in absurd (subst (λ (ls : List Link). IsLinked ls x y) f h))
   ]
 
-  sound_new : (x y : ℕ) → IsLinked new x y → IsContact rects x y ⊎ IsContact rects y x
-  sound_new x y h = elim (linked_either links (found t r j) x y h) [ inl g ↦ far.sound x y g | inr g ↦ sound_found x y g ]
+  sound_new : (x y : ℕ) → IsLinked new x y → IsContact joint rects x y ⊎ IsContact joint rects y x
+  sound_new x y h = elim (linked_either links (found joint t r j) x y h) [ inl g ↦ far.sound x y g | inr g ↦ sound_found x y g ]
 
-  inside_found : AreInRange (length rects) (found t r j)
-  inside_found = elim (cases_Bool (is_over t.rect r)) [
+  inside_found : AreInRange (length rects) (found joint t r j)
+  inside_found = elim (cases_Bool (is_over joint t.rect r)) [
     | inl e ↦
-        let f : found t r j ≡ link ∷ [] = ap (λ (b : Bool). if b then (link ∷ []) else []) e in
+        let f : found joint t r j ≡ link ∷ [] = ap (λ (b : Bool). if b then (link ∷ []) else []) e in
         subst (λ (ls : List Link). AreInRange (length rects) ls) (sym f) (slice_get_within rects t.index t.rect (are.each i t at_i), slice_get_within rects j r at_j, tt)
-    | inr e ↦ (let f : found t r j ≡ [] = ap (λ (b : Bool). if b then (link ∷ []) else []) e in subst (λ (ls : List Link). AreInRange (length rects) ls) (sym f) tt)
+    | inr e ↦ (let f : found joint t r j ≡ [] = ap (λ (b : Bool). if b then (link ∷ []) else []) e in subst (λ (ls : List Link). AreInRange (length rects) ls) (sym f) tt)
   ]
 
   inside_new : AreInRange (length rects) new
-  inside_new = range_both (length rects) links (found t r j) far.inside inside_found
+  inside_new = range_both (length rects) links (found joint t r j) far.inside inside_found
 
-  old : (a b : ℕ) (u : Top) (s : Rect) → slice_get tops a ≡ Some u → slice_get rects b ≡ Some s → (a < i) ⊎ (b < j) → IsOver u.rect s → IsLinked new u.index b
-  old a b u s e f w over = linked_left links (found t r j) u.index b (far.seen a b u s e f w over)
+  old : (a b : ℕ) (u : Top) (s : Rect) → slice_get tops a ≡ Some u → slice_get rects b ≡ Some s → (a < i) ⊎ (b < j) → IsOver joint u.rect s → IsLinked new u.index b
+  old a b u s e f w over = linked_left links (found joint t r j) u.index b (far.seen a b u s e f w over)
 
-  past_rect : (b : ℕ) (s : Rect) → j < b → slice_get rects b ≡ Some s → ends_first t.rect r ≡ true → IsOver t.rect s → ⊥
+  past_rect : (b : ℕ) (s : Rect) → j < b → slice_get rects b ≡ Some s → ends_first t.rect r ≡ true → IsOver joint t.rect s → ⊥
   past_rect b s lt f first over =
-      let y = over.row in let p = over.left in let q = over.right in
+      let y = over.row in let p = up_to_no_more joint t.rect.x1 s.x2 over.left in let q = up_to_no_more joint s.x1 t.rect.x2 over.right in
       elim (rows_ahead rects j b r s good lt at_j f) [
         | inl k ↦ elim (first_from t.rect r first) [ inl h ↦ omega (arith, ints) | inr h ↦ (let h0 = h.0 in omega (arith, ints)) ]
         | inr k ↦ let k0 = k.0 in let k1 = k.1 in elim (first_from t.rect r first) [ inl h ↦ omega (arith, ints) | inr h ↦ (let h0 = h.0 in let h1 = h.1 in omega (arith, ints)) ]
       ]
 
-  pub top_done : ends_first t.rect r ≡ true → ContactsSoFar rects tops (i + 1) j new
+  pub top_done : ends_first t.rect r ≡ true → ContactsSoFar joint rects tops (i + 1) j new
   top_done first = record {
     sound = sound_new;
     inside = inside_new;
@@ -306,20 +316,20 @@ module _ (rects : List Rect) (tops : List Top) (good : IsCanonical rects) (are :
         ];
   }
     where
-      at_top : (a b : ℕ) (u : Top) (s : Rect) → slice_get tops a ≡ Some u → slice_get rects b ≡ Some s → a ≡ i → j ≤ b → ends_first t.rect r ≡ true → IsOver u.rect s → IsLinked new u.index b
+      at_top : (a b : ℕ) (u : Top) (s : Rect) → slice_get tops a ≡ Some u → slice_get rects b ≡ Some s → a ≡ i → j ≤ b → ends_first t.rect r ≡ true → IsOver joint u.rect s → IsLinked new u.index b
       at_top a b u s e f same le first over =
           let is : t ≡ u = same_some tops i t u at_i (subst (λ (n : ℕ). slice_get tops n ≡ Some u) same e) in
-          let over' : IsOver t.rect s = subst (λ (q : Top). IsOver q.rect s) (sym is) over in
+          let over' : IsOver joint t.rect s = subst (λ (q : Top). IsOver joint q.rect s) (sym is) over in
           subst (λ (q : Top). IsLinked new q.index b) is
           (elim (cases_lt j b) [
             | inl lt ↦ absurd (past_rect b s lt f first over')
             | inr le2 ↦
                 let eb : b ≡ j = omega arith in
                 let sr : r ≡ s = same_some rects j r s at_j (subst (λ (n : ℕ). slice_get rects n ≡ Some s) eb f) in
-                subst (λ (n : ℕ). IsLinked new t.index n) (sym eb) (here (subst (λ (q : Rect). IsOver t.rect q) (sym sr) over'))
+                subst (λ (n : ℕ). IsLinked new t.index n) (sym eb) (here (subst (λ (q : Rect). IsOver joint t.rect q) (sym sr) over'))
           ])
 
-  pub rect_done : ends_first t.rect r ≡ false → ContactsSoFar rects tops i (j + 1) new
+  pub rect_done : ends_first t.rect r ≡ false → ContactsSoFar joint rects tops i (j + 1) new
   rect_done first = record {
     sound = sound_new;
     inside = inside_new;
@@ -333,34 +343,34 @@ module _ (rects : List Rect) (tops : List Top) (good : IsCanonical rects) (are :
         ];
   }
     where
-      later : (a : ℕ) (u : Top) → slice_get tops a ≡ Some u → i < a → ends_first t.rect r ≡ false → IsOver u.rect r → IsLinked new u.index j
+      later : (a : ℕ) (u : Top) → slice_get tops a ≡ Some u → i < a → ends_first t.rect r ≡ false → IsOver joint u.rect r → IsLinked new u.index j
       later a u e lt first over =
-          let y = over.row in let p = over.left in let q = over.right in
+          let y = over.row in let p = up_to_no_more joint u.rect.x1 r.x2 over.left in let q = up_to_no_more joint r.x1 u.rect.x2 over.right in
           elim (are.order i a t u lt at_i e) [
             | inl same ↦
                 let rect : t.rect ≡ u.rect = same_some rects u.index t.rect u.rect (subst (λ (n : ℕ). slice_get rects n ≡ Some t.rect) same (are.each i t at_i)) (are.each a u e) in
-                subst (λ (n : ℕ). IsLinked new n j) same (here (subst (λ (q : Rect). IsOver q r) (sym rect) over))
+                subst (λ (n : ℕ). IsLinked new n j) same (here (subst (λ (q : Rect). IsOver joint q r) (sym rect) over))
             | inr k ↦ absurd (elim k [
               | inl below ↦ elim (first_not t.rect r first) [ inl h ↦ omega (arith, ints) | inr h ↦ (let h0 = h.0 in omega (arith, ints)) ]
               | inr g ↦ let g0 = g.0 in let g1 = g.1 in elim (first_not t.rect r first) [ inl h ↦ omega (arith, ints) | inr h ↦ (let h0 = h.0 in let h1 = h.1 in omega (arith, ints)) ]
             ])
           ]
 
-      at_rect : (a b : ℕ) (u : Top) (s : Rect) → slice_get tops a ≡ Some u → slice_get rects b ≡ Some s → i ≤ a → b ≡ j → ends_first t.rect r ≡ false → IsOver u.rect s → IsLinked new u.index b
+      at_rect : (a b : ℕ) (u : Top) (s : Rect) → slice_get tops a ≡ Some u → slice_get rects b ≡ Some s → i ≤ a → b ≡ j → ends_first t.rect r ≡ false → IsOver joint u.rect s → IsLinked new u.index b
       at_rect a b u s e f le same first over =
           let sr : r ≡ s = same_some rects j r s at_j (subst (λ (n : ℕ). slice_get rects n ≡ Some s) same f) in
-          let over' : IsOver u.rect r = subst (λ (q : Rect). IsOver u.rect q) (sym sr) over in
+          let over' : IsOver joint u.rect r = subst (λ (q : Rect). IsOver joint u.rect q) (sym sr) over in
           subst (λ (n : ℕ). IsLinked new u.index n) (sym same)
           (elim (cases_lt i a) [
             | inl lt ↦ later a u e lt first over'
             | inr le2 ↦
                 let ea : a ≡ i = omega arith in
                 let is : t ≡ u = same_some tops i t u at_i (subst (λ (n : ℕ). slice_get tops n ≡ Some u) ea e) in
-                subst (λ (q : Top). IsLinked new q.index j) is (here (subst (λ (q : Top). IsOver q.rect r) (sym is) over'))
+                subst (λ (q : Top). IsLinked new q.index j) is (here (subst (λ (q : Top). IsOver joint q.rect r) (sym is) over'))
           ])
 
-pub contacts_all : (rects : List Rect) (tops : List Top) (i j : ℕ) (links : List Link) → AreTops rects tops → (length tops ≤ i) ⊎ (length rects ≤ j) → ContactsSoFar rects tops i j links → AreContacts rects links
-contacts_all rects tops i j links are over far = record {
+pub contacts_all : (joint : Joint) (rects : List Rect) (tops : List Top) (i j : ℕ) (links : List Link) → AreTops rects tops → (length tops ≤ i) ⊎ (length rects ≤ j) → ContactsSoFar joint rects tops i j links → AreContacts joint rects links
+contacts_all joint rects tops i j links are over far = record {
   sound = far.sound;
   complete = λ x y c.
       let t : Top = record { rect = c.one; index = x } in

@@ -12,8 +12,9 @@ mod plain;
 mod shape;
 
 pub use alone::{Sheets, area_shape};
+pub use area::count;
 pub use border::{border_of, grown, sides_of};
 pub use flat_layout::GateCause;
 pub use laws::{looks, looks_alone};
-pub use pieces::{least, parts};
+pub use pieces::{corner_parts, least, parts};
 pub use shape::{Around, GateForm, GateShape, shape_of};

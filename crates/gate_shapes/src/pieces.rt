@@ -1,6 +1,7 @@
-//! The edge-connected parts of a set.
+//! The regions of a set, joined at edges or at corners.
 
-ghost use Rattle.std.specs.Prelude.{◌≡◌, ◌↔◌, ℕ, ◌^◌, ◌<◌, ◌≤◌, length, slice_get, slice_index, Some};
+ghost use Rattle.std.specs.Prelude.{◌≡◌, ◌↔◌, ℕ, ◌^◌, ◌<◌, ◌≤◌, length, slice_get, slice_index};
+ghost use Rattle.std.specs.Prelude.{Some};
 ghost use Rattle.std.specs.Prelude.{IfOk, OnErr, MatchOption};
 ghost use Rattle.std.specs.List.{All};
 ghost use Rattle.geo_base.specs.Rects.{IsRect};
@@ -8,11 +9,12 @@ ghost use Rattle.geo_base.specs.declared.shapes.Rect.{Rect};
 ghost use Rattle.geo_base.specs.declared.shapes.Square.{Square};
 ghost use Rattle.rect_sets.specs.Rects.{covers};
 ghost use Rattle.gate_shapes.specs.Sets.{in_set};
-ghost use Rattle.gate_shapes.specs.PartLists.{AreParts, members};
-ghost use Rattle.flat_layout.specs.Parts.{IsLeast};
+ghost use Rattle.gate_shapes.specs.Contacts.{joint_of};
+ghost use Rattle.gate_shapes.specs.PartLists.{AreParts, AreRegions, members};
+ghost use Rattle.flat_layout.specs.Parts.{Corners, IsLeast};
 ghost use Rattle.gate_shapes.specs.Sorted.{AreSortedOut, AreSetsOf, HaveRects};
 
-use crate::contacts::contacts;
+use crate::contacts::{Joint, contacts};
 use geo_base::{Rect, Square};
 use link_classes::joined_classes;
 use list_base::small;
@@ -72,19 +74,33 @@ fn sets_of(alloc: Global, lists: &[Vec<Rect>]) -> Result<Vec<RectSet>, AllocErro
     Ok(sets)
 }
 
+// The regions of a set, in O(n log n) for n rectangles and the cost of a union of each region.
+fn regions(alloc: Global, joint: Joint, set: &RectSet) -> Result<Vec<RectSet>, AllocError>
+    ensures { IfOk result (λ v. AreRegions (joint_of joint) set.now v.items) }
+{
+    let rects = set.rects();
+    let n = short(rects)?;
+    let links = contacts(alloc, joint, rects)?;
+    let classes = joined_classes(alloc, n, &links)?;
+    let lists = sorted_out(alloc, rects, &classes.class_of, classes.count)?;
+    let sets = sets_of(alloc, &lists)?;
+    Ok(sets)
+}
+
 /// The edge-connected parts of a set: two squares that share an edge are in one part, a common
 /// corner doesn't join. In order of their least squares, in O(n log n) for n rectangles and the
 /// cost of a union of each part.
 pub fn parts(alloc: Global, set: &RectSet) -> Result<Vec<RectSet>, AllocError>
     ensures { IfOk result (λ v. AreParts set.now v.items) }
 {
-    let rects = set.rects();
-    let n = short(rects)?;
-    let links = contacts(alloc, rects)?;
-    let classes = joined_classes(alloc, n, &links)?;
-    let lists = sorted_out(alloc, rects, &classes.class_of, classes.count)?;
-    let sets = sets_of(alloc, &lists)?;
-    Ok(sets)
+    regions(alloc, Joint::Edges, set)
+}
+
+/// The same where a common corner joins, too.
+pub fn corner_parts(alloc: Global, set: &RectSet) -> Result<Vec<RectSet>, AllocError>
+    ensures { IfOk result (λ v. AreRegions Corners set.now v.items) }
+{
+    regions(alloc, Joint::Corners, set)
 }
 
 /// The least square of a set, by y, then x.

@@ -4,7 +4,7 @@ use Rattle.std.specs.List.Sorted.{IsPermutation}
 use Rattle.std.proofs.lemmas.Option.{slice_get-get_or}
 use Rattle.geo_base.specs.declared.shapes.Rect.{Rect}
 use Rattle.link_classes.specs.declared.classes.Link.{Link}
-use Rattle.gate_shapes.specs.Contacts.{ContactsSoFar}
+use Rattle.gate_shapes.specs.Contacts.{joint_of, ContactsSoFar}
 use Rattle.gate_shapes.specs.declared.contacts.Top.{Top}
 use Rattle.gate_shapes.proofs.Touching.{top_done, rect_done, are_tops, contacts_all, contacts_none}
 use Rattle.gate_shapes.proofs.contacts.contacts.Goals as goal
@@ -13,7 +13,7 @@ use Rattle.gate_shapes.proofs.contacts.contacts.Goals.{then-sides-test+else-j-re
 pub sides-init : goal.sides-init
 sides-init c = record {
   tops = are_tops c.args.rects.now c.sort_tops.new.tops.items c.requires.canonical (subst (λ (ts : List Top). IsPermutation ts c.sort_tops.new.tops.items) c.in_ok-tops.ensures c.sort_tops.ensures.permutation) c.sort_tops.ensures.sorted;
-  far = subst (λ (ls : List Link). ContactsSoFar c.args.rects.now c.sort_tops.new.tops.items 0 0 ls) (sym c.new-links.ensures.items) (contacts_none c.args.rects.now c.sort_tops.new.tops.items);
+  far = subst (λ (ls : List Link). ContactsSoFar (joint_of c.args.joint) c.args.rects.now c.sort_tops.new.tops.items 0 0 ls) (sym c.new-links.ensures.items) (contacts_none (joint_of c.args.joint) c.args.rects.now c.sort_tops.new.tops.items);
 }
 
 pub sides-preserved-then-ends_first : goal.sides-preserved-then-ends_first
@@ -27,8 +27,8 @@ sides-preserved-then-ends_first c =
     let at_j : slice_get rects c.sides.j ≡ Some r = slice_get-get_or rects c.sides.j zero (omega arith) in
     record {
       tops = c.sides.invariant.tops;
-      far = subst (λ (ls : List Link). ContactsSoFar rects tops (c.sides.i + 1) c.sides.j ls) (sym c.in_ok-push_contact.ensures)
-          (top_done rects tops c.requires.canonical c.sides.invariant.tops c.sides.i c.sides.j c.sides.links.items c.sides.invariant.far t r at_i at_j (sym c.ends_first.ensures ∙ c.if-ends_first.true));
+      far = subst (λ (ls : List Link). ContactsSoFar (joint_of c.args.joint) rects tops (c.sides.i + 1) c.sides.j ls) (sym c.in_ok-push_contact.ensures)
+          (top_done (joint_of c.args.joint) rects tops c.requires.canonical c.sides.invariant.tops c.sides.i c.sides.j c.sides.links.items c.sides.invariant.far t r at_i at_j (sym c.ends_first.ensures ∙ c.if-ends_first.true));
     }
 
 pub sides-preserved : goal.sides-preserved
@@ -42,12 +42,12 @@ sides-preserved c =
     let at_j : slice_get rects c.sides.j ≡ Some r = slice_get-get_or rects c.sides.j zero (omega arith) in
     record {
       tops = c.sides.invariant.tops;
-      far = subst (λ (ls : List Link). ContactsSoFar rects tops c.sides.i (c.sides.j + 1) ls) (sym c.in_ok-push_contact.ensures)
-          (rect_done rects tops c.requires.canonical c.sides.invariant.tops c.sides.i c.sides.j c.sides.links.items c.sides.invariant.far t r at_i at_j (sym c.ends_first.ensures ∙ c.if-ends_first.false));
+      far = subst (λ (ls : List Link). ContactsSoFar (joint_of c.args.joint) rects tops c.sides.i (c.sides.j + 1) ls) (sym c.in_ok-push_contact.ensures)
+          (rect_done (joint_of c.args.joint) rects tops c.requires.canonical c.sides.invariant.tops c.sides.i c.sides.j c.sides.links.items c.sides.invariant.far t r at_i at_j (sym c.ends_first.ensures ∙ c.if-ends_first.false));
     }
 
 pub returns : goal.returns
 returns c =
-    contacts_all c.args.rects.now c.sort_tops.new.tops.items c.sides.i c.sides.j c.sides.links.items c.sides.invariant.tops
+    contacts_all (joint_of c.args.joint) c.args.rects.now c.sort_tops.new.tops.items c.sides.i c.sides.j c.sides.links.items c.sides.invariant.tops
     (elim c.sides-test.branch [ then-sides-test+else-j-rects w ↦ inr (omega arith) | else-sides-test w ↦ inl (omega arith) ])
     c.sides.invariant.far

@@ -5,10 +5,11 @@ use Rattle.geo_base.specs.declared.shapes.Rect.{Rect}
 use Rattle.link_classes.specs.Classes.{AreClasses, AreInRange}
 use Rattle.link_classes.specs.declared.classes.Link.{Link}
 use Rattle.rect_sets.specs.Rects.{IsCanonical}
-use Rattle.gate_shapes.specs.PartLists.{AreParts}
+use Rattle.gate_shapes.specs.Contacts.{joint_of}
+use Rattle.gate_shapes.specs.PartLists.{AreRegions}
 use Rattle.gate_shapes.specs.Sorted.{AreSetsOf, AreSortedOut, HaveRects}
 use Rattle.gate_shapes.proofs.PartsOf.{parts_law, have_rects}
-use Rattle.gate_shapes.proofs.pieces.parts.Goals as goal
+use Rattle.gate_shapes.proofs.pieces.regions.Goals as goal
 
 pub contacts-requires : goal.contacts-requires
 contacts-requires c =
@@ -37,7 +38,7 @@ sets_of-requires c =
     let classes = subst (λ (l : List Link). AreClasses c.in_ok-n.n l cs c.in_ok-classes.classes.count) c.deref.ensures.value c.in_ok-classes.ensures in
     let sorted = subst (λ (l : List ℕ). AreSortedOut rects l c.in_ok-classes.classes.count c.in_ok-lists.lists.items) c.deref-2.ensures.value c.in_ok-lists.ensures in
     subst (λ (l : List (Vec Rect Global)). HaveRects l) (sym c.deref-3.ensures.value)
-    (have_rects rects good c.in_ok-links.links.items c.in_ok-links.ensures c.in_ok-n.n c.in_ok-classes.classes.count cs c.in_ok-n.ensures.length classes c.in_ok-lists.lists.items sorted)
+    (have_rects (joint_of c.args.joint) rects good c.in_ok-links.links.items c.in_ok-links.ensures c.in_ok-n.n c.in_ok-classes.classes.count cs c.in_ok-n.ensures.length classes c.in_ok-lists.lists.items sorted)
 
 pub returns : goal.returns
 returns c =
@@ -47,5 +48,5 @@ returns c =
     let classes = subst (λ (l : List Link). AreClasses c.in_ok-n.n l cs c.in_ok-classes.classes.count) c.deref.ensures.value c.in_ok-classes.ensures in
     let sorted = subst (λ (l : List ℕ). AreSortedOut rects l c.in_ok-classes.classes.count c.in_ok-lists.lists.items) c.deref-2.ensures.value c.in_ok-lists.ensures in
     let made = subst (λ (l : List (Vec Rect Global)). AreSetsOf l c.in_ok-sets.sets.items) c.deref-3.ensures.value c.in_ok-sets.ensures in
-    subst (λ (l : List Rect). AreParts l c.in_ok-sets.sets.items) c.rects-rects.ensures.list
-    (parts_law rects good c.in_ok-links.links.items c.in_ok-links.ensures c.in_ok-n.n c.in_ok-classes.classes.count cs c.in_ok-n.ensures.length classes c.in_ok-lists.lists.items sorted c.in_ok-sets.sets.items made)
+    subst (λ (l : List Rect). AreRegions (joint_of c.args.joint) l c.in_ok-sets.sets.items) c.rects-rects.ensures.list
+    (parts_law (joint_of c.args.joint) rects good c.in_ok-links.links.items c.in_ok-links.ensures c.in_ok-n.n c.in_ok-classes.classes.count cs c.in_ok-n.ensures.length classes c.in_ok-lists.lists.items sorted c.in_ok-sets.sets.items made)

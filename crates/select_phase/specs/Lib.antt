@@ -1,0 +1,5 @@
+pub mod Selections
+pub mod Found
+pub mod Lifted
+pub mod Sorted
+pub mod Beside

@@ -1,0 +1,54 @@
+//! What a cell finds of a selection.
+
+ghost use Rattle.std.specs.Prelude.{◌≡◌, length, IfOk};
+ghost use Rattle.gate_phase.specs.Site.{IsReadySite, layout_at};
+ghost use Rattle.rule_layers.specs.Formulas.{formulas};
+ghost use Rattle.select_phase.specs.Found.{AreFoundBelow, IsCellSelection};
+ghost use Rattle.select_phase.specs.Selections.{IsKnown, select_of};
+
+use crate::candidates::candidates;
+use crate::selection::Selection;
+use crate::sorting::{Sorted, sort_part};
+use gate_phase::Site;
+use gate_shapes::corner_parts;
+use rect_sets::RectSet;
+use std::alloc::{AllocError, Global};
+
+/// The squares of a cell's own regions that a selection chooses, and those of the regions' layer
+/// that go up to the cells that place it, since their regions aren't whole in it.
+#[derive(Drop)]
+pub struct CellSelection {
+    pub chosen: RectSet,
+    pub rest: RectSet,
+}
+
+/// What a cell finds of a selection, over what its placed cells found: `below` by cells' numbers.
+/// In O(n log n) for n rectangles of the candidates and what lies close to these.
+pub fn cell_selection(
+    alloc: Global,
+    site: &Site,
+    selection: &Selection,
+    below: &[Option<CellSelection>],
+) -> Result<CellSelection, AllocError>
+    requires ready { IsReadySite site.now }
+    requires known { IsKnown (formulas site.now.rules.now.names.items) selection.now }
+    requires count { length below.now ≡ length site.now.design.now.cells }
+    requires below { AreFoundBelow (layout_at site.now)
+        (select_of (formulas site.now.rules.now.names.items) selection.now) site.now.cell
+        below.now }
+    ensures { IfOk result (IsCellSelection (layout_at site.now)
+        (select_of (formulas site.now.rules.now.names.items) selection.now) site.now.cell) }
+{
+    let all = candidates(alloc, site, selection, below)?;
+    let mut sorted = Sorted {
+        chosen: Vec::new(alloc),
+        rest: Vec::new(alloc),
+    };
+    for part in &corner_parts(alloc, &all)? {
+        sort_part(alloc, site, selection, part, &mut sorted)?;
+    }
+    Ok(CellSelection {
+        chosen: RectSet::canon(alloc, sorted.chosen)?,
+        rest: RectSet::canon(alloc, sorted.rest)?,
+    })
+}
