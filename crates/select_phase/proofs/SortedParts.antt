@@ -21,9 +21,24 @@ use Rattle.select_laws.proofs.Choice.{reads_region}
 use Rattle.select_laws.proofs.Rest.{rest_law, told_law}
 use Rattle.select_laws.proofs.Staged.{region_same}
 use Rattle.select_phase.specs.Found.{AreFoundBelow, IsCellSelection}
-use Rattle.select_phase.specs.Sorted.{AreSortedTo, HaveRects, IsInFirst, IsPartAt, SortsPart}
+use Rattle.select_phase.specs.Sorted.{HaveRects, IsPartAt, SortsPart}
 use Rattle.select_phase.specs.declared.cell.CellSelection.{CellSelection}
 use Rattle.select_phase.specs.declared.sorting.Sorted.{Sorted}
+
+-- one of the first n parts has the square
+pub record IsInFirst (parts : List (List Rect)) (n : ℕ) (q : Square) : Type 0 where
+  pub at : ℕ
+  pub part : List Rect
+  pub below : at < n
+  pub there : slice_get parts at ≡ Some part
+  pub has : in_set part q
+
+-- the first n parts, sorted
+pub record AreSortedTo (d : Design) (x : Select) (cell : ℕ) (parts : List (List Rect)) (n : ℕ) (sorted : Sorted) : Type 0 where
+  pub rects : HaveRects sorted
+  pub chosen : (q : Square) → in_set sorted.chosen.items q ↔ (IsInFirst parts n q × IsOwnSelected d x cell q)
+  pub rest : (q : Square) → in_set sorted.rest.items q ↔ (IsInFirst parts n q × IsRest d x.joint (sight x) cell q)
+  pub told : (q : Square) → IsInFirst parts n q → IsDecided (IsWhole d x.joint (sight x) cell q)
 
 none_first : (parts : List (List Rect)) (q : Square) → IsInFirst parts 0 q → ⊥
 none_first parts q h = let lt = h.below in omega arith

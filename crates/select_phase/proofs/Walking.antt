@@ -1,0 +1,71 @@
+-- Cells in the design's order: what each places comes before it.
+use Rattle.std.proofs.Common.{◌≡◌, inl, inr, ℕ, ◌+◌, ◌<◌, ◌≤◌, List, Option, Some, None, IsSomeAnd, length, get_or, slice_index, refl, sym, ◌∙◌, ap, subst, arith}
+use Rattle.std.specs.Prelude.{set}
+use Rattle.std.proofs.Math.Decide.{ℕ_discrete}
+use Rattle.std.proofs.lemmas.Bool.{cases_order}
+use Rattle.std.proofs.lemmas.List.{get_or-set_other, get_or-set_same}
+use Rattle.flat_layout.specs.Layout.{IsPlaced, IsReached, Place}
+use Rattle.flat_laws.proofs.Cover.{reached_below}
+use Rattle.cell_graph.specs.Linked.{IsSound, Linked, height_at, plain}
+use Rattle.cell_graph.proofs.Bridge.{heights}
+use Rattle.deep_tables.specs.Entries.{entry}
+use Rattle.deep_tables.proofs.Reading.{some_and}
+use Rattle.select_laws.specs.Rest.{ArePartedSquares}
+use Rattle.select_laws.specs.Selects.{Select, sight}
+use Rattle.select_laws.specs.Whole.{ArePartedRegions}
+use Rattle.select_laws.proofs.Choice.{reads_region}
+use Rattle.select_laws.proofs.Rest.{parted_rest}
+use Rattle.select_phase.specs.Found.{AreFound, AreFoundBelow, IsCellSelection}
+use Rattle.select_phase.specs.declared.cell.CellSelection.{CellSelection}
+
+module _ (d : Linked) (x : Select) (sound : IsSound d) where
+  -- the first n cells have what they find
+  abbrev pub AreFoundTo : ℕ → List (Option CellSelection) → Type 0
+  AreFoundTo n found = (k : ℕ) → k < n → IsSomeAnd (entry found (slice_index d.order k)) (IsCellSelection (plain d) x (slice_index d.order k))
+
+  -- a placed cell stands before the cell that places it
+  before : (n k : ℕ) (p : Place) → n < length d.order → IsPlaced (plain d) (slice_index d.order n) k p → (i : ℕ) × (i < n) × (slice_index d.order i ≡ p.cell)
+  before n k p lt placed =
+      let at = sound.order.all p.cell (reached_below (plain d) (slice_index d.order n) k p (sound.order.reached n lt) placed) in
+      let low = heights d sound (slice_index d.order n) k p placed in
+      let same : height_at d (slice_index d.order at.0) ≡ height_at d p.cell = ap (height_at d) at.2 in
+      elim (cases_order at.0 n) [
+        | inl e ↦ (let here : height_at d (slice_index d.order at.0) ≡ height_at d (slice_index d.order n) = ap (λ i. height_at d (slice_index d.order i)) e in absurd (let z : ⊥ = omega arith in z))
+        | inr r ↦ elim r [
+          | inl less ↦ (at.0, less, at.2)
+          | inr more ↦ (let up = sound.order.rising n at.0 more at.1 in absurd (let z : ⊥ = omega arith in z))
+        ]
+      ]
+
+  pub below_of : (n : ℕ) (found : List (Option CellSelection)) → n < length d.order → AreFoundTo n found → AreFoundBelow (plain d) x (slice_index d.order n) found
+  below_of n found lt h k p placed =
+      let b = before n k p lt placed in
+      let v = some_and (IsCellSelection (plain d) x (slice_index d.order b.0)) (entry found (slice_index d.order b.0)) (h b.0 b.1) in
+      (v.0, ap (λ (c : ℕ). get_or found c None) (sym b.2) ∙ v.1, subst (λ (c : ℕ). IsCellSelection (plain d) x c v.0) b.2 v.2)
+
+  pub found_none : (found : List (Option CellSelection)) → AreFoundTo 0 found
+  found_none found k lt = absurd (let z : ⊥ = omega arith in z)
+
+  pub found_more : (n : ℕ) (found : List (Option CellSelection)) (v : CellSelection) → n < length d.order → length found ≡ length d.cells → AreFoundTo n found → IsCellSelection (plain d) x (slice_index d.order n) v
+      → AreFoundTo (n + 1) (set found (slice_index d.order n) (Some v))
+  found_more n found v lt long h here k less =
+      let inside = sound.order.inside n lt in
+      elim (ℕ_discrete k n) [
+        | yes e ↦
+            subst (λ (i : ℕ). IsSomeAnd (entry (set found (slice_index d.order n) (Some v)) (slice_index d.order i)) (IsCellSelection (plain d) x (slice_index d.order i))) (sym e)
+            (subst (λ (o : Option CellSelection). IsSomeAnd o (IsCellSelection (plain d) x (slice_index d.order n))) (sym (get_or-set_same found (slice_index d.order n) (Some v) None (omega (arith, inside, long)))) here)
+        | no not ↦
+            (let other : slice_index d.order k ≡ slice_index d.order n → ⊥ = λ same. not (sound.order.once k n (omega (arith, lt, less)) lt same) in
+            subst (λ (o : Option CellSelection). IsSomeAnd o (IsCellSelection (plain d) x (slice_index d.order k))) (sym (get_or-set_other found (slice_index d.order n) (slice_index d.order k) (Some v) None other)) (h k (omega (arith, not))))
+      ]
+
+  pub found_all : (n : ℕ) (found : List (Option CellSelection)) → length d.order ≤ n → AreFoundTo n found → AreFound (plain d) x found
+  found_all n found end h cell reached =
+      let at = sound.order.all cell reached in
+      let lt = at.1 in
+      subst (λ (c : ℕ). IsSomeAnd (entry found c) (IsCellSelection (plain d) x c)) at.2 (h at.0 (omega arith))
+
+  -- so of each whole region it is known whether it is its cell's own
+  pub regions_parted : ((cell : ℕ) → IsReached (plain d) cell → ArePartedSquares (plain d) (sight x) cell) → (found : List (Option CellSelection)) → AreFound (plain d) x found → ArePartedRegions (plain d) x.joint (sight x)
+  regions_parted squares found h = parted_rest (plain d) x.joint (sight x) (reads_region x) squares
+      (λ cell reached. (some_and (IsCellSelection (plain d) x cell) (entry found cell) (h cell reached)).2.told)
