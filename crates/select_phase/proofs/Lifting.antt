@@ -41,11 +41,11 @@ use Rattle.select_phase.specs.declared.cell.CellSelection.{CellSelection}
 -- the first n visits have been
 pub record LiftsTo (p : Place) (set old : List Rect) (visits : List Visit) (n : ℕ) (new : List Rect) : Type 0 where
   pub each : (q : Square) → in_set new q → in_set old q ⊎ IsLifted p set q
-  pub old : (q : Square) → in_set old q → in_set new q
+  pub kept : (q : Square) → in_set old q → in_set new q
   pub all : (k : ℕ) → k < n → (s : Square) → in_set set s → in_set new (moved_square (slice_index_or visits k no_visit).motion s)
 
 pub lifted_none : (p : Place) (set old : List Rect) (visits : List Visit) → LiftsTo p set old visits 0 old
-lifted_none p set old visits = record { each = λ q e. inl e; old = λ q e. e; all = λ k lt s e. absurd (let z : ⊥ = omega arith in z) }
+lifted_none p set old visits = record { each = λ q e. inl e; kept = λ q e. e; all = λ k lt s e. absurd (let z : ⊥ = omega arith in z) }
 
 module _ (p : Place) (frame plane : Rect) (set old before after : List Rect) (visits : List Visit) (n : ℕ) (is : IsElementVisit p frame plane (slice_index_or visits n no_visit)) (lands : Lands p set plane) (adds : Adds before after set (slice_index_or visits n no_visit).motion plane) where
   abbrev m : Motion
@@ -79,7 +79,7 @@ module _ (p : Place) (frame plane : Rect) (set old before after : List Rect) (vi
           | inl a ↦ h.each q (subst (λ y. in_set before y) o.1 a)
           | inr b ↦ inr (lifted o.0 q ((and_parts (covers set o.0) (has plane (moved_square m o.0)) b).0) o.1)
         ];
-    old = λ q e. keeps q (h.old q e);
+    kept = λ q e. keeps q (h.kept q e);
     all = λ k lt s e. elim (ℕ_discrete k n) [
       | yes same ↦ subst (λ (i : ℕ). in_set after (moved_square (slice_index_or visits i no_visit).motion s)) (sym same) (here s e)
       | no not ↦ keeps (moved_square (slice_index_or visits k no_visit).motion s) (h.all k (omega (arith, not)) s e)
@@ -90,7 +90,7 @@ pub lifted_all : (p : Place) (frame plane : Rect) (set old new : List Rect) (vis
     → ((row column : ℕ) (q : Square) → row < p.rows → column < p.columns → IsMet p frame plane row column q → IsFound p row column q visits) → LiftsTo p set old visits n new → Lifts p set old new
 lifted_all p frame plane set old new visits n end held lands found h = record {
   each = h.each;
-  old = h.old;
+  kept = h.kept;
   all = λ q l.
       let met : IsMet p frame plane l.row l.column l.square = record { inner = held l.square l.has; outer = subst (λ y. has plane y ≡ true) (sym l.image) (lands q l) } in
       let s = some_at (IsVisited p l.row l.column l.square) visits no_visit (found l.row l.column l.square l.row_in l.column_in met) in
@@ -101,7 +101,7 @@ lifted_all p frame plane set old new visits n end held lands found h = record {
 
 -- where the set has no square none goes up
 pub lifts_none : (p : Place) (set old : List Rect) → ((q : Square) → in_set set q → ⊥) → Lifts p set old old
-lifts_none p set old none = record { each = λ q e. inl e; old = λ q e. e; all = λ q l. absurd (none l.square l.has) }
+lifts_none p set old none = record { each = λ q e. inl e; kept = λ q e. e; all = λ q l. absurd (none l.square l.has) }
 
 -- an element takes a grown hull into the plane
 moved_in : (n : ℕ) (o : Option Rect) (p : Place) (row column : ℕ) (s : Square) (plane : Rect) → n ≤ 20001 → HullIsSound o → HoldsNear plane → IsCloseArray p → row < p.rows → column < p.columns → IsInGrown n o s
@@ -129,12 +129,12 @@ pub record IsLiftedFrom (places : List Place) (sets : ℕ → List Rect) (n : �
 -- the first squares, and those that go up from the first n references
 pub record LiftedTo (places : List Place) (sets : ℕ → List Rect) (first : List Rect) (n : ℕ) (out : List Rect) : Type 0 where
   pub each : (q : Square) → in_set out q → in_set first q ⊎ IsLiftedFrom places sets n q
-  pub first : (q : Square) → in_set first q → in_set out q
+  pub kept : (q : Square) → in_set first q → in_set out q
   pub all : (q : Square) → IsLiftedFrom places sets n q → in_set out q
 
 module _ (places : List Place) (sets : ℕ → List Rect) (first : List Rect) where
   pub none_lifted : LiftedTo places sets first 0 first
-  none_lifted = record { each = λ q e. inl e; first = λ q e. e; all = λ q l. let lt = l.below in absurd (let z : ⊥ = omega arith in z) }
+  none_lifted = record { each = λ q e. inl e; kept = λ q e. e; all = λ q l. let lt = l.below in absurd (let z : ⊥ = omega arith in z) }
 
   pub more_lifted : (n : ℕ) (p : Place) (old new : List Rect) → slice_get places n ≡ Some p → Lifts p (sets p.cell) old new → LiftedTo places sets first n old → LiftedTo places sets first (n + 1) new
   more_lifted n p old new at lifts h = record {
@@ -142,12 +142,12 @@ module _ (places : List Place) (sets : ℕ → List Rect) (first : List Rect) wh
       | inl a ↦ elim (h.each q a) [ inl b ↦ inl b | inr l ↦ inr (later q l) ]
       | inr l ↦ inr (record { at = n; place = p; below = omega arith; there = at; lifted = l })
     ];
-    first = λ q e. lifts.old q (h.first q e);
+    kept = λ q e. lifts.kept q (h.kept q e);
     all = λ q l. elim (ℕ_discrete l.at n) [
       | yes e ↦
           let same : l.place ≡ p = one_entry (slice_get places n) l.place p (subst (λ (k : ℕ). slice_get places k ≡ Some l.place) e l.there) at in
           lifts.all q (subst (λ (r : Place). IsLifted r (sets r.cell) q) same l.lifted)
-      | no not ↦ (let lt = l.below in lifts.old q (h.all q (record { at = l.at; place = l.place; below = omega (arith, not); there = l.there; lifted = l.lifted })))
+      | no not ↦ (let lt = l.below in lifts.kept q (h.all q (record { at = l.at; place = l.place; below = omega (arith, not); there = l.there; lifted = l.lifted })))
     ];
   }
     where
@@ -205,5 +205,5 @@ module _ (d : Linked) (x : Select) (cell : ℕ) (sound : IsSound d) (found : Lis
     pub are_candidates : (q : Square) → in_set out q ↔ IsCandidate (plain d) x.joint (sight x) cell q
     are_candidates q = (
       (λ e. elim (h.each q e) [ inl a ↦ inl ((local q).0 a) | inr l ↦ inr (from_below q l) ]),
-      (λ c. elim c [ inl a ↦ h.first q ((local q).1 a) | inr b ↦ h.all q (to_lifted q b) ]),
+      (λ c. elim c [ inl a ↦ h.kept q ((local q).1 a) | inr b ↦ h.all q (to_lifted q b) ]),
     )

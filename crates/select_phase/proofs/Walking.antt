@@ -1,5 +1,5 @@
 -- Cells in the design's order: what each places comes before it.
-use Rattle.std.proofs.Common.{◌≡◌, inl, inr, ℕ, ◌+◌, ◌<◌, ◌≤◌, List, Option, Some, None, IsSomeAnd, length, get_or, slice_index, refl, sym, ◌∙◌, ap, subst, arith}
+use Rattle.std.proofs.Common.{◌≡◌, inl, inr, ℕ, zero, suc, ◌+◌, ◌<◌, ◌≤◌, List, Option, Some, None, IsSomeAnd, length, get_or, replicate, slice_index, refl, sym, ◌∙◌, ap, subst, arith}
 use Rattle.std.specs.Prelude.{set}
 use Rattle.std.proofs.Math.Decide.{ℕ_discrete}
 use Rattle.std.proofs.lemmas.Bool.{cases_order}
@@ -17,6 +17,26 @@ use Rattle.select_laws.proofs.Choice.{reads_region}
 use Rattle.select_laws.proofs.Rest.{parted_rest}
 use Rattle.select_phase.specs.Found.{AreFound, AreFoundBelow, IsCellSelection}
 use Rattle.select_phase.specs.declared.cell.CellSelection.{CellSelection}
+
+abbrev nones : ℕ → List (Option CellSelection)
+nones n = replicate n None
+
+none_at : (n k : ℕ) → get_or (nones n) k None ≡ None
+none_at zero k = refl
+none_at (suc n) zero = refl
+none_at (suc n) (suc k) = none_at n k
+
+-- cells that the top doesn't reach have none
+abbrev pub AreNoneElse : Linked → List (Option CellSelection) → Type 0
+AreNoneElse d found = (cell : ℕ) → (IsReached (plain d) cell → ⊥) → get_or found cell None ≡ None
+
+pub none_first : (d : Linked) (n : ℕ) (found : List (Option CellSelection)) → found ≡ nones n → AreNoneElse d found
+none_first d n found is cell off = ap (λ (l : List (Option CellSelection)). get_or l cell None) is ∙ none_at n cell
+
+pub none_still : (d : Linked) → IsSound d → (n : ℕ) (found : List (Option CellSelection)) (v : CellSelection) → n < length d.order → AreNoneElse d found → AreNoneElse d (set found (slice_index d.order n) (Some v))
+none_still d sound n found v lt h cell off =
+    let other : cell ≡ slice_index d.order n → ⊥ = λ same. off (subst (λ (c : ℕ). IsReached (plain d) c) (sym same) (sound.order.reached n lt)) in
+    get_or-set_other found (slice_index d.order n) cell (Some v) None other ∙ h cell off
 
 module _ (d : Linked) (x : Select) (sound : IsSound d) where
   -- the first n cells have what they find

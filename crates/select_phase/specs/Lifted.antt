@@ -25,5 +25,5 @@ Lands p set plane = (q : Square) → IsLifted p set q → has plane q ≡ true
 -- the new squares are the old ones and those
 pub record Lifts (p : Place) (set old new : List Rect) : Type 0 where
   pub each : (q : Square) → in_set new q → in_set old q ⊎ IsLifted p set q
-  pub old : (q : Square) → in_set old q → in_set new q
+  pub kept : (q : Square) → in_set old q → in_set new q
   pub all : (q : Square) → IsLifted p set q → in_set new q

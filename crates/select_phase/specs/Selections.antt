@@ -40,7 +40,7 @@ select_at site s = select_of (trees_at site) s
 
 -- a reached cell with right tables, of a design that shuts what nothing disturbs, and a selection
 -- over its rules' names
-pub record IsReadySelection (site : Site) (s : Selection) : Type 0 where
-  pub site : IsReadySite site
-  pub way : (layout_at site).way ≡ Disturbed
-  pub known : IsKnown (trees_at site) s
+pub record IsReadySelection (at : Site) (s : Selection) : Type 0 where
+  pub site : IsReadySite at
+  pub way : (layout_at at).way ≡ Disturbed
+  pub known : IsKnown (trees_at at) s

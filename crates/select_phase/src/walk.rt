@@ -1,7 +1,8 @@
 //! What all cells find of a selection.
 
-ghost use Rattle.std.specs.Prelude.{◌≡◌, None, length, replicate, IfOk};
+ghost use Rattle.std.specs.Prelude.{◌≡◌, ℕ, None, get_or, length, replicate, IfOk};
 ghost use Rattle.cell_graph.specs.Linked.{plain};
+ghost use Rattle.flat_layout.specs.Layout.{IsReached};
 ghost use Rattle.flat_layout.specs.declared.way.Way.TheVariants.{Disturbed};
 ghost use Rattle.gate_phase.specs.Indexes.{AreLayersOf};
 ghost use Rattle.deep_tables.specs.Zones.{AreZones};
@@ -35,12 +36,12 @@ fn nothing(alloc: Global, cells: u32) -> Result<Vec<Option<CellSelection>>, Allo
 
 /// What each cell that the top reaches finds of a selection, by the cells' numbers: each once, all
 /// that it places before it. A cell costs as `cell_selection`; an `Err` is want of memory.
-pub fn find_selection(
+pub fn find_selection<'a>(
     alloc: Global,
-    design: &Design,
-    rules: &RuleSet,
-    zones: &Zones,
-    layers: &IndexedLayers,
+    design: &'a Design,
+    rules: &'a RuleSet,
+    zones: &'a Zones,
+    layers: &'a IndexedLayers<'a>,
     selection: &Selection,
 ) -> Result<Vec<Option<CellSelection>>, AllocError>
     requires rules { IsSound (rules_seen rules.now) }
@@ -51,6 +52,8 @@ pub fn find_selection(
     ensures count { IfOk result (λ v. length v.items ≡ length design.now.cells) }
     ensures found { IfOk result (λ v. AreFound (plain design.now)
         (select_of (formulas rules.now.names.items) selection.now) v.items) }
+    ensures none { IfOk result (λ v. (cell : ℕ) → (IsReached (plain design.now) cell → ⊥)
+        → get_or v.items cell None ≡ None) }
     ensures parted { IfOk result (λ v. ArePartedRegions (plain design.now) Corners
         (sight (select_of (formulas rules.now.names.items) selection.now))) }
 {
