@@ -1,5 +1,5 @@
 -- What goes up through the elements of an array, visit by visit.
-use Rattle.std.proofs.Common.{◌≡◌, ◌⊎◌, ◌↔◌, inl, inr, ℕ, Option, Some, None, ◌+◌, ◌<◌, ◌≤◌, true, ◌&&◌, ◌||◌, List, length, map, slice_get, slice_index_or, refl, sym, ◌∙◌, ap, subst, arith}
+use Rattle.std.proofs.Common.{◌≡◌, ◌⊎◌, ◌↔◌, inl, inr, ℕ, pos, Option, Some, None, ◌+◌, ◌<◌, ◌≤◌, true, ◌&&◌, ◌||◌, List, length, map, slice_get, slice_index_or, refl, sym, ◌∙◌, ap, subst, arith}
 use Rattle.std.proofs.Math.Decide.{ℕ_discrete}
 use Rattle.std.proofs.lemmas.Bool.{and_from, and_parts, or_cases, or_right}
 use Rattle.std.proofs.lemmas.Option.{slice_get_within}
@@ -7,6 +7,7 @@ use Rattle.base_laws.proofs.Items.{one_entry}
 use Rattle.geo_base.specs.Motions.{moved_square}
 use Rattle.geo_base.specs.Rects.{has, moved_rect}
 use Rattle.geo_base.specs.declared.motion.Motion.{Motion}
+use Rattle.geo_base.specs.declared.motion.Turn.TheVariants.{R0}
 use Rattle.geo_base.specs.declared.shapes.Rect.{Rect}
 use Rattle.geo_base.specs.declared.shapes.Square.{Square}
 use Rattle.geo_base.proofs.Images.{onto}
@@ -37,6 +38,10 @@ use Rattle.select_laws.specs.Selects.{Select, sight}
 use Rattle.select_phase.specs.Found.{AreFoundBelow, rest_in, rest_of}
 use Rattle.select_phase.specs.Lifted.{IsLifted, Lands, Lifts}
 use Rattle.select_phase.specs.declared.cell.CellSelection.{CellSelection}
+
+-- past the last reference
+abbrev pub no_place : Place
+no_place = record { cell = 0; motion = record { turn = R0; dx = pos 0; dy = pos 0 }; columns = 0; rows = 0; column_step = record { x = pos 0; y = pos 0 }; row_step = record { x = pos 0; y = pos 0 } }
 
 -- the first n visits have been
 pub record LiftsTo (p : Place) (set old : List Rect) (visits : List Visit) (n : ℕ) (new : List Rect) : Type 0 where

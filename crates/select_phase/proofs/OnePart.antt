@@ -13,8 +13,8 @@ use Rattle.flat_layout.specs.Parts.{IsCloseTo}
 use Rattle.gate_shapes.specs.Sets.{in_set}
 use Rattle.select_laws.specs.Layered.{IsOwnSelected}
 use Rattle.select_laws.specs.Rest.{ArePartedSquares, IsRest}
-use Rattle.select_laws.specs.Selects.{Has, OnSide, Select, sight}
-use Rattle.select_phase.specs.Beside.{IsBeside}
+use Rattle.select_laws.specs.Selects.{Ask, Interacting, Overlapping, Inside, Outside, WithArea, Has, OnSide, Select, sight}
+use Rattle.select_phase.specs.Beside.{IfOther, IsBeside}
 use Rattle.select_phase.specs.Sorted.{HaveRects, IsCalmPart, IsPartAt, SortsPart}
 use Rattle.select_phase.specs.declared.sorting.Sorted.{Sorted}
 use Rattle.select_phase.proofs.Regions.{own_selected, torn_at, whole_at}
@@ -78,3 +78,11 @@ module _ (d : Design) (x : Select) (cell : ℕ) (reached : IsReached d cell) (pa
       rest = none_on (IsRest d x.joint (sight x) cell) old.rest.items part new.rest.items rest whole_not;
       told = λ q e. inl (whole_at d x cell reached parted part s same q e calm);
     }
+
+-- where an area is asked nothing else is
+pub if_other : (a : Ask) (A : Type 0) → A → IfOther a A
+if_other Interacting A h = h
+if_other Overlapping A h = h
+if_other Inside A h = h
+if_other Outside A h = h
+if_other (WithArea low high) A h = tt

@@ -37,7 +37,7 @@ sight_zone d r z cell s sound right reached known =
     let h = zone_at (plain d) r z cell s.name (Binary And x.region x.other) right reached known.both tt in
     (h.0, h.1, (framed_open d (sight x).keys (zone_margin r.names) cell h.0 (sound.hulls.each cell) h.2.canonical).0 h.2)
 
-both_reach : (r : Rules) (s : Selection) → IsKnown (formulas r.names) s → reach (get_or (formulas r.names) s.name Empty) ≡ (sight (select_of (formulas r.names) s)).reach
+pub both_reach : (r : Rules) (s : Selection) → IsKnown (formulas r.names) s → reach (get_or (formulas r.names) s.name Empty) ≡ (sight (select_of (formulas r.names) s)).reach
 both_reach r s known =
     let x = select_of (formulas r.names) s in
     ap reach (get_or_from_slice_get (formulas r.names) s.name (Binary And x.region x.other) Empty known.both)
