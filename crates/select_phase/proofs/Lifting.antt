@@ -1,7 +1,8 @@
 -- What goes up through the elements of an array, visit by visit.
-use Rattle.std.proofs.Common.{◌≡◌, ◌⊎◌, ◌↔◌, inl, inr, ℕ, pos, Option, Some, None, ◌+◌, ◌<◌, ◌≤◌, true, ◌&&◌, ◌||◌, List, length, map, slice_get, slice_index_or, refl, sym, ◌∙◌, ap, subst, arith}
+use Rattle.std.proofs.Common.{◌≡◌, ◌⊎◌, ◌↔◌, inl, inr, ℕ, pos, Option, Some, None, ◌+◌, ◌<◌, ◌≤◌, true, ◌&&◌, ◌||◌, List, get_or, length, map, slice_get, slice_index_or, refl, sym, ◌∙◌, ap, subst, arith}
 use Rattle.std.proofs.Math.Decide.{ℕ_discrete}
 use Rattle.std.proofs.lemmas.Bool.{and_from, and_parts, or_cases, or_right}
+use Rattle.std.proofs.lemmas.List.{get_or_default}
 use Rattle.std.proofs.lemmas.Option.{slice_get_within}
 use Rattle.base_laws.proofs.Items.{one_entry}
 use Rattle.geo_base.specs.Motions.{moved_square}
@@ -42,6 +43,10 @@ use Rattle.select_phase.specs.declared.cell.CellSelection.{CellSelection}
 -- past the last reference
 abbrev pub no_place : Place
 no_place = record { cell = 0; motion = record { turn = R0; dx = pos 0; dy = pos 0 }; columns = 0; rows = 0; column_step = record { x = pos 0; y = pos 0 }; row_step = record { x = pos 0; y = pos 0 } }
+
+-- an item that is there
+pub there_found : (below : List (Option CellSelection)) (k : ℕ) (o : Option CellSelection) → k < length below → o ≡ get_or below k o → get_or below k None ≡ o
+there_found below k o lt is = get_or_default below k None o lt ∙ sym is
 
 -- the first n visits have been
 pub record LiftsTo (p : Place) (set old : List Rect) (visits : List Visit) (n : ℕ) (new : List Rect) : Type 0 where

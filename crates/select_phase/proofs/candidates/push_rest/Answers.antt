@@ -14,7 +14,7 @@ use Rattle.gate_shapes.specs.Sets.{in_set}
 use Rattle.select_phase.specs.Found.{rest_in, rest_of}
 use Rattle.select_phase.specs.Lifted.{Lifts}
 use Rattle.select_phase.specs.declared.cell.CellSelection.{CellSelection}
-use Rattle.select_phase.proofs.Lifting.{lands_held}
+use Rattle.select_phase.proofs.Lifting.{lands_held, there_found}
 use Rattle.select_phase.proofs.candidates.push_rest.Goals as goal
 
 pub bounds-below-place : goal.bounds-below-place
@@ -45,22 +45,22 @@ push_lifted-requires-clause-frame c =
 
 pub push_lifted-requires-clause-held : goal.push_lifted-requires-clause-held
 push_lifted-requires-clause-held c = λ q e.
-    let is : get_or c.args.below.now c.args.place.now.cell None ≡ Some c.in-Some.found = sym c.index-below-place.is ∙ c.in-Some.is in
+    let is : get_or c.args.below.now c.args.place.now.cell None ≡ Some c.in-Some.found = there_found c.args.below.now c.args.place.now.cell c.index-below-place.result (let inside = (lower c.args.site.now.design.now c.args.site.now.cell c.requires.place.0 c.args.place.now c.sound.ensures c.requires.place.1).0 in let count = c.requires.count in omega (arith, inside, count)) c.index-below-place.is ∙ c.in-Some.is in
     let h = subst (λ (o : Option Rect). IsInGrown c.args.reach o q) (sym c.hull.ensures ∙ c.in-Some-hull.is) (c.requires.held q (subst (λ (o : Option CellSelection). in_set (rest_of o) q) (sym is) e)) in
     subst (λ (r : Rect). has r q ≡ true) (sym c.grown.ensures) h
 
 pub push_lifted-requires-clause-near_set : goal.push_lifted-requires-clause-near_set
 push_lifted-requires-clause-near_set c =
-    let is : get_or c.args.below.now c.args.place.now.cell None ≡ Some c.in-Some.found = sym c.index-below-place.is ∙ c.in-Some.is in
+    let is : get_or c.args.below.now c.args.place.now.cell None ≡ Some c.in-Some.found = there_found c.args.below.now c.args.place.now.cell c.index-below-place.result (let inside = (lower c.args.site.now.design.now c.args.site.now.cell c.requires.place.0 c.args.place.now c.sound.ensures c.requires.place.1).0 in let count = c.requires.count in omega (arith, inside, count)) c.index-below-place.is ∙ c.in-Some.is in
     held_near c.args.reach c.args.site.now.design.now c.args.place.now.cell c.in-Some.found.rest c.requires.reach c.sound.ensures (λ q e. c.requires.held q (subst (λ (o : Option CellSelection). in_set (rest_of o) q) (sym is) e))
 
 pub push_lifted-requires-clause-lands : goal.push_lifted-requires-clause-lands
 push_lifted-requires-clause-lands c =
-    let is : get_or c.args.below.now c.args.place.now.cell None ≡ Some c.in-Some.found = sym c.index-below-place.is ∙ c.in-Some.is in
+    let is : get_or c.args.below.now c.args.place.now.cell None ≡ Some c.in-Some.found = there_found c.args.below.now c.args.place.now.cell c.index-below-place.result (let inside = (lower c.args.site.now.design.now c.args.site.now.cell c.requires.place.0 c.args.place.now c.sound.ensures c.requires.place.1).0 in let count = c.requires.count in omega (arith, inside, count)) c.index-below-place.is ∙ c.in-Some.is in
     lands_held c.args.site.now.design.now c.args.site.now.cell c.requires.place.0 c.args.reach c.args.place.now c.in-Some.found.rest c.args.plane.now c.sound.ensures c.requires.reach c.requires.place.1 c.requires.all
     (λ q e. c.requires.held q (subst (λ (o : Option CellSelection). in_set (rest_of o) q) (sym is) e))
 
 pub returns-in-Some-hull-clause-lifts : goal.returns-in-Some-hull-clause-lifts
 returns-in-Some-hull-clause-lifts c =
-    let is : get_or c.args.below.now c.args.place.now.cell None ≡ Some c.in-Some.found = sym c.index-below-place.is ∙ c.in-Some.is in
+    let is : get_or c.args.below.now c.args.place.now.cell None ≡ Some c.in-Some.found = there_found c.args.below.now c.args.place.now.cell c.index-below-place.result (let inside = (lower c.args.site.now.design.now c.args.site.now.cell c.requires.place.0 c.args.place.now c.sound.ensures c.requires.place.1).0 in let count = c.requires.count in omega (arith, inside, count)) c.index-below-place.is ∙ c.in-Some.is in
     on_ok _ _ c.push_lifted.result (λ h. subst (λ (o : Option CellSelection). Lifts c.args.place.now (rest_of o) c.args.out.now.items c.push_lifted.new.out.items) (sym is) h) c.push_lifted.ensures.lifts

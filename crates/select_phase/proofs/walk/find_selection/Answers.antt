@@ -5,6 +5,7 @@ use Rattle.rule_layers.specs.Formulas.{formulas}
 use Rattle.rule_text.specs.Seen.{rules_seen}
 use Rattle.select_phase.specs.Found.{AreFoundBelow, IsCellSelection}
 use Rattle.select_phase.specs.Selections.{select_of}
+use Rattle.select_phase.specs.declared.cell.CellSelection.{CellSelection}
 use Rattle.select_phase.proofs.Walking.{AreFoundTo, AreNoneElse, below_of, found_all, found_more, none_still, regions_parted, squares_of}
 use Rattle.select_phase.proofs.walk.find_selection.Goals as goal
 
@@ -14,7 +15,8 @@ cell_selection-requires-clause-below c =
     let n = c.loop-cell.cell-index in
     let long = ap (λ (o : List ℕ). length o) c.order-cell-items.ensures in
     let same : get_or c.order-cell-items.result.now n 0 ≡ slice_index d.order n = ap (λ (o : List ℕ). slice_index o n) c.order-cell-items.ensures in
-    subst (λ (k : ℕ). AreFoundBelow (plain d) x k c.loop-cell.found.items) (sym same) (below_of d x c.sound.ensures n c.loop-cell.found.items (omega (arith, long)) c.loop-cell.invariant.to)
+    subst (λ (l : List (Option CellSelection)). AreFoundBelow (plain d) x (get_or c.order-cell-items.result.now n 0) l) (sym c.deref.ensures.value)
+    (subst (λ (k : ℕ). AreFoundBelow (plain d) x k c.loop-cell.found.items) (sym same) (below_of d x c.sound.ensures n c.loop-cell.found.items (omega (arith, long)) c.loop-cell.invariant.to))
 
 pub loop-cell-preserved : goal.loop-cell-preserved
 loop-cell-preserved c =
