@@ -1,10 +1,13 @@
 -- Selections over the names of rules.
-use Rattle.std.specs.Prelude.{◌≡◌, ℕ, ◌<◌, ◌≤◌, Bool, true, false, List, Some, get_or, length}
-use Rattle.std.specs.Prelude.{slice_get}
-use Rattle.flat_layout.specs.Layers.{Formula, Empty, Binary, reach}
+use Rattle.std.specs.Prelude.{◌≡◌, ℕ, ◌<◌, Bool, true, false, List, Some, get_or, length, slice_get}
+use Rattle.flat_layout.specs.Layers.{Formula, Empty, Binary}
 use Rattle.flat_layout.specs.Parts.{Corners}
+use Rattle.flat_layout.specs.declared.way.Way.TheVariants.{Disturbed}
 use Rattle.geo_base.specs.declared.layer.Op.TheVariants.{And}
+use Rattle.gate_phase.specs.Site.{IsReadySite, layout_at}
+use Rattle.gate_phase.specs.declared.site.Site.{Site}
 use Rattle.region_asks.specs.Asks.{ask_of}
+use Rattle.rule_layers.specs.Formulas.{formulas}
 use Rattle.select_laws.specs.Selects.{Select, Side, Those, Others}
 use Rattle.select_phase.specs.declared.selection.Selection.{Selection}
 
@@ -28,3 +31,16 @@ pub record IsKnown (trees : List Formula) (s : Selection) : Type 0 where
   pub other : s.other < length trees
   pub both : slice_get trees s.name
       ≡ Some (Binary And (get_or trees s.region Empty) (get_or trees s.other Empty))
+
+abbrev pub trees_at : Site → List Formula
+trees_at site = formulas site.rules.now.names.items
+
+abbrev pub select_at : Site → Selection → Select
+select_at site s = select_of (trees_at site) s
+
+-- a reached cell with right tables, of a design that shuts what nothing disturbs, and a selection
+-- over its rules' names
+pub record IsReadySelection (at : Site) (s : Selection) : Type 0 where
+  pub site : IsReadySite at
+  pub way : (layout_at at).way ≡ Disturbed
+  pub known : IsKnown (trees_at at) s

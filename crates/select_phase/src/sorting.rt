@@ -6,14 +6,14 @@ ghost use Rattle.geo_base.specs.declared.shapes.Rect.{Rect as Rectangle};
 ghost use Rattle.geo_base.specs.declared.shapes.Square.{Square};
 ghost use Rattle.flat_layout.specs.Parts.{IsCloseTo};
 ghost use Rattle.cell_graph.specs.Linked.{IsRectWithin};
-ghost use Rattle.gate_phase.specs.Site.{IsReadySite, layout_at};
+ghost use Rattle.gate_phase.specs.Own.{IsHeldPart};
+ghost use Rattle.gate_phase.specs.Site.{layout_at};
 ghost use Rattle.gate_shapes.specs.Sets.{in_set};
-ghost use Rattle.rule_layers.specs.Formulas.{formulas};
 ghost use Rattle.region_asks.specs.Asks.{ask_of};
-ghost use Rattle.select_laws.specs.Selects.{Has, OnSide};
+ghost use Rattle.select_laws.specs.Selects.{Has, OnSide, sight};
 ghost use Rattle.select_phase.specs.Beside.{IsBeside};
-ghost use Rattle.select_phase.specs.Selections.{IsKnown, select_of, side_of};
-ghost use Rattle.select_phase.specs.Sorted.{HaveRects, IsPartAt, SortsPart};
+ghost use Rattle.select_phase.specs.Selections.{IsReadySelection, select_at, side_of};
+ghost use Rattle.select_phase.specs.Sorted.{HaveRects, IsCalmPart, IsPartAt, SortsPart};
 
 use crate::selection::Selection;
 use deep_tables::ZoneKey;
@@ -37,24 +37,26 @@ fn beside(
     selection: &Selection,
     close: &RectSet,
 ) -> Result<RectSet, AllocError>
-    requires ready { IsReadySite site.now }
-    requires known { IsKnown (formulas site.now.rules.now.names.items) selection.now }
+    requires ready { IsReadySelection site.now selection.now }
     requires windows { All (IsRectWithin (2 ^ 39)) close.now }
-    ensures { IfOk result (IsBeside (layout_at site.now)
-        (select_of (formulas site.now.rules.now.names.items) selection.now) site.now.cell
-        close.now) }
+    ensures { IfOk result (IsBeside (layout_at site.now) (select_at site.now selection.now)
+        site.now.cell close.now) }
 {
     if let Ask::WithArea { .. } = selection.ask {
         return Ok(RectSet::empty(alloc));
     }
-    kept_in(
+    site.design.sound();
+    let windows = close.rects();
+    let layers = site.layers;
+    let kept = kept_in(
         alloc,
         site.design,
-        site.layers,
+        layers,
         site.cell,
         selection.other,
-        close.rects(),
-    )
+        windows,
+    )?;
+    Ok(kept)
 }
 
 // Whether a region of the cell's own is chosen.
@@ -65,18 +67,42 @@ fn is_chosen(
     part: &RectSet,
     close: &RectSet,
 ) -> Result<bool, AllocError>
-    requires ready { IsReadySite site.now }
-    requires known { IsKnown (formulas site.now.rules.now.names.items) selection.now }
+    requires ready { IsReadySelection site.now selection.now }
     requires windows { All (IsRectWithin (2 ^ 39)) close.now }
     requires close { (q : Square) → in_set close.now q ↔ IsCloseTo (in_set part.now) q }
     ensures { IfOk result (λ told. (near : List Rectangle) × IsBeside (layout_at site.now)
-        (select_of (formulas site.now.rules.now.names.items) selection.now) site.now.cell close.now
-        near × ((told ≡ true) ↔ OnSide (side_of selection.now.others)
-        (Has (ask_of selection.now.ask) (in_set part.now) (in_set near)))) }
+        (select_at site.now selection.now) site.now.cell close.now near × ((told ≡ true)
+        ↔ OnSide (side_of selection.now.others) (Has (ask_of selection.now.ask) (in_set part.now)
+        (in_set near)))) }
 {
     let other = beside(alloc, site, selection, close)?;
     let told = has(alloc, selection.ask, part, close, &other)?;
     Ok(told != selection.others)
+}
+
+// Whether nothing is disturbed close to a part.
+fn is_calm(
+    alloc: Global,
+    site: &Site,
+    selection: &Selection,
+    part: &RectSet,
+    close: &RectSet,
+) -> Result<bool, AllocError>
+    requires ready { IsReadySelection site.now selection.now }
+    requires held { IsHeldPart (sight (select_at site.now selection.now)).reach
+        site.now.design.now site.now.cell part.now }
+    requires windows { All (IsRectWithin (2 ^ 39)) close.now }
+    requires close { (q : Square) → in_set close.now q ↔ IsCloseTo (in_set part.now) q }
+    ensures { IfOk result (λ told. (told ≡ true) ↔ IsCalmPart (layout_at site.now)
+        (select_at site.now selection.now) site.now.cell part.now) }
+{
+    site.design.sound();
+    let zone = site
+        .zones
+        .indexed(site.cell, ZoneKey::Layer(selection.name));
+    let reach = site.layers.reach(selection.name);
+    let apart = misses(alloc, close, zone, reach)?;
+    Ok(apart)
 }
 
 /// Sorts a part of the candidates: a region of the cell's own, where nothing is disturbed close to
@@ -88,27 +114,22 @@ pub fn sort_part(
     part: &RectSet,
     sorted: &mut Sorted,
 ) -> Result<(), AllocError>
-    requires ready { IsReadySite site.now }
-    requires known { IsKnown (formulas site.now.rules.now.names.items) selection.now }
-    requires part { (s : Square) × IsPartAt (layout_at site.now)
-        (select_of (formulas site.now.rules.now.names.items) selection.now) site.now.cell part.now
-        s }
+    requires ready { IsReadySelection site.now selection.now }
+    requires part { (s : Square) × IsPartAt (layout_at site.now) (select_at site.now selection.now)
+        site.now.cell part.now s }
     requires rects { HaveRects sorted.old }
-    ensures sorts { OnOk result (SortsPart (layout_at site.now)
-        (select_of (formulas site.now.rules.now.names.items) selection.now) site.now.cell part.now
-        sorted.old sorted.new) }
+    ensures sorts { OnOk result (SortsPart (layout_at site.now) (select_at site.now selection.now)
+        site.now.cell part.now sorted.old sorted.new) }
     ensures rects { OnOk result (HaveRects sorted.new) }
 {
+    site.design.sound();
     let close = close_to(alloc, part)?;
-    let zone = site
-        .zones
-        .indexed(site.cell, ZoneKey::Layer(selection.name));
-    let reach = site.layers.reach(selection.name);
-    if !misses(alloc, &close, zone, reach)? {
-        return sorted.rest.extend_from_slice(part.rects());
+    let rects = part.rects();
+    if !is_calm(alloc, site, selection, part, &close)? {
+        return sorted.rest.extend_from_slice(rects);
     }
     if is_chosen(alloc, site, selection, part, &close)? {
-        sorted.chosen.extend_from_slice(part.rects())?;
+        return sorted.chosen.extend_from_slice(rects);
     }
     Ok(())
 }

@@ -5,4 +5,4 @@ use Rattle.rule_text.specs.declared.rules.LayerRule.{LayerRule}
 use Rattle.gate_phase.proofs.indexes.IndexedLayers.new.Goals as goal
 
 pub reaches-requires : goal.reaches-requires
-reaches-requires c = subst (λ (l : List LayerRule). All (λ n. n ≤ MOST_REACH) (reaches l)) (sym c.deref.ensures.value) c.requires.rules.formed.near
+reaches-requires c = subst (λ (l : List LayerRule). All (λ n. n ≤ MOST_REACH) (reaches l)) (sym c.as_slice-names.ensures.value) c.requires.rules.formed.near
