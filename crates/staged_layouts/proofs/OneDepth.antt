@@ -1,5 +1,5 @@
 -- The layers of selections that don't read one another.
-use Rattle.std.proofs.Common.{◌≡◌, ◌↔◌, inl, inr, ℕ, true, false, not, List, [], ◌∷◌, ◌++◌, Some, slice_get, refl, sym, ◌∙◌, ap, subst, cond}
+use Rattle.std.proofs.Common.{◌≡◌, inl, inr, ℕ, true, false, List, [], ◌∷◌, ◌++◌, Some, refl, sym, ◌∙◌, ap, subst}
 use Rattle.std.specs.Global.{Vec}
 use Rattle.std.proofs.lemmas.Bool.{cases_Bool, false≢true}
 use Rattle.geo_base.specs.declared.layer.LayerKey.{LayerKey}
@@ -16,7 +16,7 @@ use Rattle.cell_graph.specs.declared.cells.OwnLayer.{OwnLayer}
 use Rattle.cell_graph.proofs.Bridge.{key_is, key_same, part_of}
 use Rattle.cell_graph.proofs.Resolving.{at_too}
 use Rattle.select_laws.specs.Staged.{IsKeyOf, Stage}
-use Rattle.staged_designs.specs.Depths.{AreFound, AreFree, DepthLaw, stage_keys}
+use Rattle.staged_designs.specs.Depths.{DepthLaw, stage_keys}
 use Rattle.staged_designs.proofs.Depth.{has_listed, key_of}
 use Rattle.staged_layouts.specs.Staged.{AreFresh, IsStagedCell, StagedDepthLaw}
 use Rattle.staged_layouts.proofs.Cells.{rects_first, rects_next}
@@ -70,9 +70,9 @@ module _ (own : OwnLaw) (depth : DepthLaw) (d e : Linked) (s : Stage) (ss : List
       fresh.reached cell l.0 found.0 q l.1 found.1 found.2
 
 pub depth_law : OwnLaw → DepthLaw → StagedDepthLaw
-depth_law own depth d e s ss further are made found free fresh sound way = record {
+depth_law own depth d e s ss further are made found free fresh sound = record {
   top = made.top;
-  way = way;
+  way = made.way;
   sound = sound;
   count = made.count;
   cells = staged_cell own depth d e s ss further are made fresh sound;
