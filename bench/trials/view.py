@@ -36,8 +36,8 @@ def try_all(trials):
     trials.expect("another width", (1, "view mismatch circuits 4 pairs 4 bad 0"), wrong)
     trials.expect_said(tools.section(text, "## A mismatch, step by step"), wrong[1])
     page = trials.text("chip.txt").split("\n")
-    trials.expect("the page's lines", 4, len(page))
-    for line in page[1:3]:
+    trials.expect("the page's lines", 5, len(page))
+    for line in page[2:4]:
         trials.expect_said(tools.section(text, "## A mismatch, step by step"), line)
     trials.expect_said(tools.section(formats, "## The netlist browser's database"), page[0])
     lines = trials.text("chip.lvsdb").split("\n")

@@ -320,7 +320,9 @@ def check_page(page, read):
             lines = [line_of(row, word, shown) for kind, word in (("N", "net"), ("D", "device"), ("X", "call")) for row in pair[kind]]
             wanted.append(collections.Counter(line for line in lines if line))
     found = []
-    for line in page.decode("latin-1").split("\n")[1:-1]:
+    for line in page.decode("latin-1").split("\n")[2:-1]:
+        if line.startswith("Warning: "):
+            continue
         if line.startswith("cell "):
             found.append(collections.Counter())
         elif ": joins nets " not in line and ": in the layout two parts, " not in line:
