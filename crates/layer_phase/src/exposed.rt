@@ -1,7 +1,7 @@
 //! The squares of placed cells that have to be looked at, found once for each cell: those that it
 //! leaves for an input layer and that are flat on one. Everywhere else the placed cell keeps what
 //! lies there, or nothing lies there.
-ghost use Rattle.std.specs.Prelude.{◌≡◌, ◌<◌, ◌≤◌, ◌^◌, [], ◌++◌, ◌∷◌, ℕ, List, Some, length};
+ghost use Rattle.std.specs.Prelude.{◌≡◌, ◌<◌, ◌≤◌, ◌^◌, [], ◌++◌, ◌∷◌, List, Some, length};
 ghost use Rattle.std.specs.Prelude.{slice_get, true, IfOk, IfSome, OnOk};
 ghost use Rattle.std.specs.List.{All};
 ghost use Rattle.geo_base.specs.Near.{IsNearRect};
@@ -187,9 +187,9 @@ fn push_all_flat(
     Ok(())
 }
 
-// Squares of a window, among them all that lie within so many squares of both sets: these, or all so
-// near the first set, whatever takes fewer rectangles. Where the number is 0, the second lies in the
-// first.
+// Squares of a window, among them all that lie within so many squares of both sets: these, or all
+// so near the first set, whatever takes fewer rectangles. Where the number is 0, the second lies in
+// the first.
 fn near_both(
     alloc: Global,
     places: &RectSet,

@@ -15,7 +15,7 @@ ghost use Rattle.layer_phase.specs.Groups.{AreFlatsAround, AreGroups, ArePlain, 
 ghost use Rattle.layer_phase.specs.Groups.{IsFlatAround, IsGroup, IsMember};
 ghost use Rattle.layer_phase.specs.Keeps.{IsZoneAt};
 ghost use Rattle.layer_phase.specs.Looks.{AreReadLooks};
-ghost use Rattle.layer_phase.specs.Names.{AreLocals, IsFlatIn};
+ghost use Rattle.layer_phase.specs.Names.{AreLocals};
 ghost use Rattle.layer_phase.specs.Work.{IsWork};
 
 use crate::flats::name_flats;

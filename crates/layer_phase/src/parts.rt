@@ -1,18 +1,15 @@
 //! The parts of which a cell's layers are made.
-ghost use Rattle.std.specs.Prelude.{◌≡◌, ◌↔◌, ◌<◌, ◌≤◌, ◌^◌, ◌&&◌, not, ℕ, IfOk, OnOk, true};
+ghost use Rattle.std.specs.Prelude.{◌≡◌, ◌↔◌, ◌<◌, ◌≤◌, ◌^◌, ◌&&◌, not, IfOk, true};
 ghost use Rattle.std.specs.Prelude.{List, length};
 ghost use Rattle.std.specs.List.{All};
 ghost use Rattle.geo_base.specs.Rects.{IsRect, has, grown};
 ghost use Rattle.geo_base.specs.declared.shapes.Rect.{Rect as Rectangle};
 ghost use Rattle.geo_base.specs.declared.shapes.Square.{Square};
 ghost use Rattle.rect_sets.specs.Rects.{covers};
-ghost use Rattle.flat_layout.specs.Layers.{Formula, IsLocal};
-ghost use Rattle.flat_layout.specs.Layout.{IsReached};
-ghost use Rattle.cell_graph.specs.Linked.{IsFrame, IsRectWithin, plain};
+ghost use Rattle.cell_graph.specs.Linked.{IsFrame, IsRectWithin};
 ghost use Rattle.layer_phase.specs.Around.{around};
 ghost use Rattle.layer_phase.specs.Keeps.{HasEntry, HaveEntries, IsKeptBy, IsZoneAt};
 ghost use Rattle.cell_context.specs.Over.{IsPiece};
-ghost use Rattle.deep_tables.specs.declared.zones.CellZones.{CellZones};
 ghost use Rattle.layer_phase.specs.Looks.{AreNear};
 ghost use Rattle.cell_context.specs.Placed.{Grows};
 ghost use Rattle.sized_layers.specs.Sizes.{IsSetWithin};
@@ -21,7 +18,6 @@ use crate::grown::sized;
 use crate::squares::{fewer, whole};
 use crate::work::CellWork;
 use cell_context::{Visit, grown, push_images, push_pieces, visits};
-use cell_graph::Design;
 use deep_tables::{ZoneKey, Zones};
 use geo_base::{Op, Rect};
 use rect_sets::{RectSet, combine_rects};
