@@ -34,7 +34,8 @@ others_selected [] s d e x alike same free cell q =
       texts = alike.texts;
       own = λ at other z differ. same at other z (other_key s [] other (λ k. k) differ);
     }) (free s.key (inl refl)) cell q
-others_selected (t ∷ ts) s d e x alike same free cell q = ((λ h. one.0 (rest.0 h)), (λ h. rest.1 (one.1 h)))
+others_selected (t ∷ ts) s d e x alike same free cell q =
+    let rest = others_selected ts t middle e x (mixed_alike d e alike s.key) off (λ key k. free key (inr k)) cell q in ((λ h. one.0 (rest.0 h)), (λ h. rest.1 (one.1 h)))
   where
     middle : Design
     middle = record { cells = mixed s.key d.cells e.cells; top = d.top; way = d.way }
@@ -52,9 +53,6 @@ others_selected (t ∷ ts) s d e x alike same free cell q = ((λ h. one.0 (rest.
           let a = mixed_other d e alike s.key at key z differ in
           let b = same at key z (other_key s (t ∷ ts) key apart_from differ) in ((λ y. a.1 (b.0 y)), (λ y. b.1 (a.0 y)))
     ]
-
-    rest : IsOwnSelected e x cell q ↔ IsOwnSelected middle x cell q
-    rest = others_selected ts t middle e x (mixed_alike d e alike s.key) off (λ key k. free key (inr k)) cell q
 
 leads_alike : (d e : Design) → AreAlike d e → (path : List ℕ) (from to : ℕ) → Leads e from path to → Leads d from path to
 leads_alike d e alike [] from to h = h
