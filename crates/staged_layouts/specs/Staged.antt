@@ -132,5 +132,4 @@ abbrev pub StagedDepthLaw : Type 0
 StagedDepthLaw = (d e : Linked) (s : Stage) (ss : List Stage) (further : List (Vec OwnLayer))
     → AreFurther d.cells (stage_keys (s ∷ ss)) further
     → IsLayeredDesign d (stage_keys (s ∷ ss)) further e → AreFound d (s ∷ ss) further
-    → AreFree (s ∷ ss) → AreFresh d (s ∷ ss) further → IsSound e → e.way ≡ d.way
-    → IsStagedDesign (s ∷ ss) d e
+    → AreFree (s ∷ ss) → AreFresh d (s ∷ ss) further → IsSound e → IsStagedDesign (s ∷ ss) d e
