@@ -1,8 +1,8 @@
 -- What the tables have of a selection's own name is what the cell leaves of its regions.
-use Rattle.std.proofs.Common.{◌≡◌, ℕ, ◌+◌, ◌≤◌, List, Option, Some, get_or, slice_get, sym, ◌∙◌, ap, subst, arith}
+use Rattle.std.proofs.Common.{◌≡◌, ℕ, ◌+◌, ◌≤◌, List, Option, Some, get_or, sym, ◌∙◌, ap, arith}
 use Rattle.std.proofs.lemmas.Option.{get_or_from_slice_get}
 use Rattle.std.proofs.Math.Nat.{le-max_left}
-use Rattle.flat_layout.specs.Layers.{Binary, Empty, Formula, inputs, reach}
+use Rattle.flat_layout.specs.Layers.{Binary, Empty, reach}
 use Rattle.flat_layout.specs.Layout.{IsReached}
 use Rattle.geo_base.specs.declared.layer.Op.TheVariants.{And}
 use Rattle.geo_base.specs.declared.shapes.Rect.{Rect}
@@ -11,7 +11,7 @@ use Rattle.cell_graph.specs.Linked.{Linked, IsSound, cell_at, hull_of, plain}
 use Rattle.cell_graph.proofs.Growing.{wider_grown}
 use Rattle.rule_text.specs.Reaches.{reaches}
 use Rattle.rule_text.specs.Rules.{Rules}
-use Rattle.rule_layers.specs.Formulas.{formulas, greatest_reach, zone_margin}
+use Rattle.rule_layers.specs.Formulas.{formulas, zone_margin}
 use Rattle.rule_layers.proofs.Reaching.{reach_in}
 use Rattle.deep_tables.specs.Frames.{IsFramedOpen}
 use Rattle.deep_tables.specs.Zones.{AreZones, zone_of}

@@ -1,4 +1,4 @@
-use Rattle.std.proofs.Common.{◌≡◌, ◌≤◌, List, Some, length, refl, sym, ◌∙◌, ap, subst}
+use Rattle.std.proofs.Common.{◌≤◌, List, Some, length, refl, sym, ◌∙◌, ap, subst}
 use Rattle.geo_base.specs.declared.shapes.Rect.{Rect}
 use Rattle.cell_context.proofs.Collecting.{item_at}
 use Rattle.gate_phase.specs.Site.{layout_at}
