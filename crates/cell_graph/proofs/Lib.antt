@@ -28,3 +28,4 @@ pub mod Windows
 pub mod Ways
 pub mod Relinking
 pub mod LayeredDrafts
+pub mod LayeredNames

@@ -1,5 +1,5 @@
 -- Cells with further layers are drafts that link to the same places.
-use Rattle.std.proofs.Common.{◌≡◌, ◌⊎◌, inl, inr, ℕ, zero, suc, ◌+◌, ◌<◌, ◌≤◌, ◌^◌, Bool, true, false, not, List, [], ◌∷◌, ◌++◌, Option, Some, None, map, length, slice_get, refl, sym, ◌∙◌, ap, subst, arith, cond}
+use Rattle.std.proofs.Common.{◌≡◌, ◌⊎◌, inl, inr, ℕ, zero, suc, ◌+◌, ◌<◌, ◌≤◌, true, not, List, [], ◌∷◌, ◌++◌, Option, Some, None, length, slice_get, refl, sym, ◌∙◌, ap, subst, arith, cond}
 use Rattle.std.specs.Global.{Vec}
 use Rattle.std.proofs.lemmas.Bool.{cases_Bool, or_left, or_right, false≢true}
 use Rattle.base_laws.proofs.Items.{one_entry, item_at, map_to, map_from, one_list}
@@ -16,11 +16,11 @@ use Rattle.cell_graph.specs.declared.drafts.CellDraft.{CellDraft}
 use Rattle.cell_graph.specs.declared.drafts.DraftRef.{DraftRef}
 use Rattle.cell_graph.specs.declared.drafts.LinkFault.{LinkFault}
 use Rattle.cell_graph.specs.declared.drafts.LinkFault.TheVariants.{TooManyCells, DuplicateCell, NoSuchCell, Cycle, TooDeep, NoTop, TopUnclear, CoordinateRange, NoMemory}
-use Rattle.cell_graph.specs.Chains.{Leads, IsOnCycle, IsTooDeep}
+use Rattle.cell_graph.specs.Chains.{Leads}
 use Rattle.cell_graph.specs.Drafts.{IsNamed, HasRef, Refers, IsFault, IsLink}
 use Rattle.cell_graph.specs.Extents.{HaveArrays}
 use Rattle.cell_graph.specs.Layering.{cell_names, HaveNames, has_key, other_layers, AreFurther, IsLayeredDesign, IsRefOf, IsDraftOf, AreDraftsOf, AreDraftsTo, IsLayerFault, ArePlacesInside}
-use Rattle.cell_graph.specs.Linked.{Linked, IsSound, cell_at, places_at, height_at, height_of, layer_keys}
+use Rattle.cell_graph.specs.Linked.{Linked, IsSound, cell_at, keeping, places_at, height_at, height_of, layer_keys}
 use Rattle.cell_graph.proofs.Bridge.{key_own, reference_at, lower}
 use Rattle.cell_graph.proofs.Resolving.{at_too}
 
@@ -94,6 +94,9 @@ pub inside_of : (d : Linked) (cells : List CellPart) (names : List (List ℕ)) �
 inside_of d cells names sound e f =
     let long : length d.cells ≡ length names = sym (ap length f ∙ names_count cells ∙ ap length e) in
     subst (λ (cs : List CellPart). ArePlacesInside cs (length names)) (sym e) (subst (λ n. ArePlacesInside d.cells n) long (places_inside d sound))
+
+pub top_at : (d : Linked) (i : ℕ) (cell : CellPart) → i ≡ d.top → cell_at d d.top ≡ Some cell → cell_at d i ≡ Some cell
+top_at d i cell e at = subst (λ k. cell_at d k ≡ Some cell) (sym e) at
 
 shallow : (d : Linked) (i : ℕ) → IsSound d → height_at d i ≤ 64
 shallow d i sound = at (cell_at d i) refl
@@ -207,9 +210,10 @@ module _ (d : Linked) (sound : IsSound d) (names : HaveNames d.cells) (keys : Li
     fault (CoordinateRange name) h = (drafts, made, h.2)
     fault NoMemory h = refl
 
-    pub layered : (e : Linked) → IsLink drafts (Some top) e → IsLayeredDesign d keys further e
+    pub layered : (e : Linked) → IsLink drafts (Some top) e → IsLayeredDesign d keys further (keeping d.way e)
     layered e link = record {
       top = one_name top e.top d.top link.tops at_top;
+      way = refl;
       count = link.count ∙ made.count;
       each = λ i layers c p at_l at_c at_p.
           let r = at_too d.cells drafts i c (sym made.count) at_c in

@@ -1,5 +1,5 @@
 -- A design with further layers in its cells, in place of all that these had under the same keys.
-use Rattle.std.specs.Prelude.{◌≡◌, ℕ, ◌≤◌, ◌^◌, Bool, List, ◌++◌, Some, map}
+use Rattle.std.specs.Prelude.{◌≡◌, ℕ, ◌≤◌, ◌^◌, Bool, false, List, ◌++◌, Option, Some, map}
 use Rattle.std.specs.Prelude.{length, not, slice_get}
 use Rattle.std.specs.List.{filter, list_any}
 use Rattle.std.specs.Global.{Vec}
@@ -13,9 +13,9 @@ use Rattle.cell_graph.specs.declared.drafts.CellDraft.{CellDraft}
 use Rattle.cell_graph.specs.declared.drafts.DraftRef.{DraftRef}
 use Rattle.cell_graph.specs.declared.drafts.LinkFault.{LinkFault}
 use Rattle.cell_graph.specs.declared.drafts.LinkFault.TheVariants.{CoordinateRange, NoMemory}
-use Rattle.cell_graph.specs.Drafts.{IsFirstFar}
+use Rattle.cell_graph.specs.Drafts.{IsFirstFar, IsLink}
 use Rattle.cell_graph.specs.Parts.{AreInside}
-use Rattle.cell_graph.specs.Linked.{Linked, cell_at, layer_keys}
+use Rattle.cell_graph.specs.Linked.{Linked, cell_at, layer_keys, own_of}
 
 abbrev pub cell_names : List CellPart → List (List ℕ)
 cell_names cells = map (λ c. c.name) cells
@@ -51,6 +51,7 @@ pub record IsLayeredCell (keys : List LayerKey) (further : List OwnLayer) (c p :
 pub record IsLayeredDesign (d : Linked) (keys : List LayerKey)
     (further : List (Vec OwnLayer)) (e : Linked) : Type 0 where
   pub top : e.top ≡ d.top
+  pub way : e.way ≡ d.way
   pub count : length e.cells ≡ length d.cells
   pub each : (i : ℕ) (layers : Vec OwnLayer) (c p : CellPart)
       → slice_get further i ≡ Some layers → cell_at d i ≡ Some c → cell_at e i ≡ Some p
@@ -108,3 +109,29 @@ abbrev pub IsLayerFault : List CellPart → List LayerKey → List (Vec OwnLayer
 IsLayerFault cells keys further (CoordinateRange name) =
     (drafts : List CellDraft) × AreDraftsOf cells keys further drafts × IsFirstFar drafts name
 IsLayerFault cells keys further fault = fault ≡ NoMemory
+
+-- the cells of a linked design have such names
+abbrev pub NamesLaw : Type 0
+NamesLaw = (cells : List CellDraft) (top : Option (List ℕ)) (d : Linked) → IsLink cells top d
+    → HaveNames d.cells
+
+-- and keep them with further layers
+abbrev pub SameNamesLaw : Type 0
+SameNamesLaw = (d e : Linked) (keys : List LayerKey) (further : List (Vec OwnLayer))
+    → AreFurther d.cells keys further → IsLayeredDesign d keys further e → HaveNames d.cells
+    → HaveNames e.cells
+
+-- on other keys each cell's own rectangles stay
+abbrev pub OwnKeptLaw : Type 0
+OwnKeptLaw = (d e : Linked) (keys : List LayerKey) (further : List (Vec OwnLayer))
+    → AreFurther d.cells keys further → IsLayeredDesign d keys further e
+    → (cell : ℕ) (key : LayerKey) → has_key keys key ≡ false
+    → own_of (cell_at e cell) key ≡ own_of (cell_at d cell) key
+
+-- on these they are the further ones, none where such a layer is empty
+abbrev pub OwnFurtherLaw : Type 0
+OwnFurtherLaw = (d e : Linked) (keys : List LayerKey) (further : List (Vec OwnLayer))
+    → AreFurther d.cells keys further → IsLayeredDesign d keys further e
+    → (cell i : ℕ) (layers : Vec OwnLayer) (layer : OwnLayer)
+    → slice_get further cell ≡ Some layers → slice_get layers.items i ≡ Some layer
+    → own_of (cell_at e cell) layer.key ≡ layer.set

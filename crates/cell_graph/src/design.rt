@@ -100,6 +100,7 @@ impl Design {
             order: _,
             nothing: _,
             indexes: _,
+            way: _,
         } = self;
         cells
     }

@@ -5,6 +5,7 @@ ghost use Rattle.cell_graph.specs.Parts.{AreInside};
 ghost use Rattle.cell_graph.specs.Layering.{HaveNames, AreFurther, IsLayeredDesign, IsRefOf};
 ghost use Rattle.cell_graph.specs.Layering.{AreRefsOf, IsDraftOf, AreDraftsTo, cell_names};
 ghost use Rattle.cell_graph.specs.Layering.{IsLayerFault, has_key, other_layers, ArePlacesInside};
+ghost use Rattle.cell_graph.specs.Layering.{NamesLaw, SameNamesLaw, OwnKeptLaw, OwnFurtherLaw};
 
 use crate::cells::{CellPart, OwnLayer, Place, is_same_key};
 use crate::design::Design;
@@ -134,10 +135,20 @@ impl Design {
         ensures fault { IfErr result (IsLayerFault self.cells keys.now further.items) }
     {
         self.sound();
+        let way = self.way();
         let top = self.name(self.top()).try_clone(alloc)?;
         let cells = self.into_cells();
         let names = names_of(alloc, &cells)?;
         let drafts = drafts_of(alloc, &names, cells, keys, further)?;
-        Design::link(alloc, drafts, Some(&top))
+        let linked = Design::link(alloc, drafts, Some(&top))?;
+        Ok(linked.keeping(way))
     }
 }
+
+/// What holds of the cells of a design with further layers.
+pub fn layering_laws()
+    ensures names { NamesLaw }
+    ensures same_names { SameNamesLaw }
+    ensures own_kept { OwnKeptLaw }
+    ensures own_further { OwnFurtherLaw }
+{}

@@ -24,3 +24,4 @@ mod walking;
 pub use cells::{CellPart, OwnLayer, Place, RawText};
 pub use design::{Design, design_laws};
 pub use drafts::{CellDraft, DraftRef, LinkFault};
+pub use layering::layering_laws;

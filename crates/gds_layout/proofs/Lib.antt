@@ -7,3 +7,4 @@ pub mod LinkLemmas
 pub mod SameDrafts
 pub mod OneFault
 pub mod OneLayout
+pub mod SamePlain

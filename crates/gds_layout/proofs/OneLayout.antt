@@ -1,5 +1,9 @@
 -- Bytes are read as one layout.
-use Rattle.std.proofs.Common.{◌≡◌, ℕ, List, [], ◌∷◌, map, length, Option, Some, None, refl, sym, ap, subst, ◌∙◌}
+use Rattle.std.proofs.Common.{◌≡◌, ◌⊎◌, inl, inr, ℕ, ◌+◌, ◌-◌, ◌*◌, ◌^◌, ◌<◌, ◌≤◌, List, [], ◌∷◌, map, length, Option, Some, None, refl, sym, ap, subst, ◌∙◌, arith}
+use Rattle.std.proofs.lemmas.Bool.{cases_lt}
+use Rattle.std.proofs.Math.Nat.{mul-le-mul_right}
+use Rattle.fixed_num.specs.Real.{IsNearest, whole}
+use Rattle.gds_elements.specs.Data.{real_in, unit_in}
 use Rattle.base_laws.proofs.Lists.{map_count}
 use Rattle.base_laws.proofs.Items.{one_list, map_from}
 use Rattle.geo_base.specs.declared.motion.Motion.{Motion}
@@ -95,10 +99,33 @@ one_top : (ds : List CellDraft) → HasNoRepeat ds → (top : Option (List ℕ))
 one_top ds once None i j x y = y.1 i x.0
 one_top ds once (Some name) i j x y = one_named ds once name i j x y
 
+-- ---- the database unit
+
+-- a value has one nearest whole number
+not_below : (s w j k : ℕ) → j < k → 2 * w < (2 * j + 1) * s → (2 * k - 1) * s ≤ 2 * w → ⊥
+not_below s w j k lt high low =
+    let less : 2 * j + 1 ≤ 2 * k - 1 = omega (arith, lt) in
+    let wide = mul-le-mul_right s less in
+    omega (arith, wide, high, low)
+
+one_nearest : (w j k : ℕ) → IsNearest w j → IsNearest w k → j ≡ k
+one_nearest w j k a b = by (cases_lt j k) (cases_lt k j)
+  where
+    by : (j < k) ⊎ (k ≤ j) → (k < j) ⊎ (j ≤ k) → j ≡ k
+    by (inl lt) q = absurd (not_below (16 ^ 78) (w * 10 ^ 12) j k lt (let h = a.high in omega (arith, h)) (let h = b.low in omega (arith, h)))
+    by (inr le) (inl lt) = absurd (not_below (16 ^ 78) (w * 10 ^ 12) k j lt (let h = b.high in omega (arith, h)) (let h = a.low in omega (arith, h)))
+    by (inr le) (inr ge) = omega (arith, le, ge)
+
 -- ---- layouts
 
 header_same : (v : Library) (a b : Header) → IsHeaderOf v a → IsHeaderOf v b → IsSameHeader a b
-header_same v a b x y = record { version = x.version ∙ sym y.version; dates = x.dates ∙ sym y.dates; name = x.name ∙ sym y.name; units = x.units ∙ sym y.units }
+header_same v a b x y = record {
+  version = x.version ∙ sym y.version;
+  dates = x.dates ∙ sym y.dates;
+  name = x.name ∙ sym y.name;
+  units = x.units ∙ sym y.units;
+  unit = one_nearest (whole (real_in (unit_in v.units))) a.unit_pm b.unit_pm x.unit.nearest y.unit.nearest;
+}
 
 layout_same : OneListLaw → (v : Library) (top : Option (List ℕ)) (l m : Layout) → IsLayoutOf v top l → IsLayoutOf v top m → IsSameLayout l m
 layout_same lists v top l m x y =

@@ -16,6 +16,7 @@ pub record IsSameHeader (a b : Header) : Type 0 where
   pub dates : a.dates ≡ b.dates
   pub name : a.name.items ≡ b.name.items
   pub units : a.units ≡ b.units
+  pub unit : a.unit_pm ≡ b.unit_pm
 
 -- what a cell draws, and its references
 abbrev pub contents : CellPart → flat.Cell × List Place
@@ -27,6 +28,11 @@ pub record IsSameLayout (l m : Layout) : Type 0 where
   pub dates : l.cell_dates.items ≡ m.cell_dates.items
   pub cells : map contents l.design.cells ≡ map contents m.design.cells
   pub top : l.design.top ≡ m.design.top
+
+-- and the cells keep squares in one way
+pub record IsAlike (l m : Layout) : Type 0 where
+  pub same : IsSameLayout l m
+  pub way : l.design.way ≡ m.design.way
 
 -- bytes are read as one layout
 abbrev pub OneLayoutLaw : Type 0

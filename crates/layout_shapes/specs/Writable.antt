@@ -2,9 +2,10 @@
 use Rattle.std.specs.Prelude.{◌≡◌, ℕ, ◌<◌, List, [], ◌∷◌, length, Option, Some, IsSome, slice_get}
 use Rattle.std.specs.List.{All}
 use Rattle.flat_layout.specs.Arrays.{Reference, places_of}
+use Rattle.flat_layout.specs.Layout.{IsHeight, IsReached}
 use Rattle.geo_base.specs.Layers.{IsStreamKey}
 use Rattle.geo_base.specs.Near.{IsLongRect}
-use Rattle.cell_graph.specs.Linked.{Linked, reference, cell_at, places_at}
+use Rattle.cell_graph.specs.Linked.{Linked, reference, cell_at, height_at, places_at, plain}
 use Rattle.cell_graph.specs.declared.cells.Place.{Place}
 use Rattle.cell_graph.specs.declared.cells.CellPart.{CellPart}
 use Rattle.rule_text.specs.declared.rules.Output.{Output}
@@ -16,7 +17,7 @@ use Rattle.gds_layout.specs.declared.layout.Layout.{Layout}
 use Rattle.gds_shapes.specs.Data.{IsData, IsNamed}
 use Rattle.gds_shapes.specs.References.{reference_read, FitsReference}
 use Rattle.gds_shapes.specs.Accepted.{IsHeading}
-use Rattle.layout_shapes.specs.Written.{heading_of, ref_of, line_of, drawn}
+use Rattle.layout_shapes.specs.Written.{heading_of, name_of, ref_of, line_of, drawn}
 
 -- a cell whose name and references have room in their records
 pub record IsWritableCell (d : Linked) (c : CellPart) : Type 0 where
@@ -30,6 +31,17 @@ pub record IsWritable (l : Layout) : Type 0 where
   pub dates : All (IsData 24) l.cell_dates.items
   pub each : (i : ℕ) (c : CellPart) → slice_get l.design.cells i ≡ Some c
       → IsWritableCell l.design c
+
+-- no two cells that the top reaches have one name
+abbrev pub HaveOwnNames : Linked → Type 0
+HaveOwnNames d = (j k : ℕ) → IsReached (plain d) j → IsReached (plain d) k
+    → name_of (cell_at d j) ≡ name_of (cell_at d k) → j ≡ k
+
+-- a stream has room for it, no name in it means two cells, and no cell stands below itself
+pub record FitsStream (l : Layout) : Type 0 where
+  pub room : IsWritable l
+  pub names : HaveOwnNames l.design
+  pub heights : IsHeight (plain l.design) (height_at l.design)
 
 -- the table has what the cell holds of an output line, and that and the line's layer have room
 pub record CanWriteLine (table : List (Option CellLayers)) (cell : ℕ) (o : Output) : Type 0 where

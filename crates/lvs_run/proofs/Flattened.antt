@@ -5,9 +5,7 @@ use Rattle.lvs_outside.specs.Store.{Store, Told, Holds}
 use Rattle.lvs_outside.specs.Summary.{SinkState}
 use Rattle.lvs_outside.specs.Files.{File, IsWritten, AreWritten, IsApart, AreApart, files_of}
 use Rattle.gds_layout.specs.declared.layout.Layout.{Layout as ReadLayout}
-use Rattle.gds_layout.specs.Layouts.{IsRead}
-use Rattle.rule_layers.specs.Meaning.{way_of}
-use Rattle.lvs_run.proofs.Ways.{IsReadIn}
+use Rattle.run_layout.specs.RunLayout.{IsRunLayout}
 use Rattle.shapes_file.specs.Flat.{CoversFlat}
 use Rattle.shapes_file.specs.File.{IsShapesFile}
 use Rattle.rule_text.specs.Rules as rule_sets
@@ -68,14 +66,14 @@ none_written before after why a (inr (inr h)) v = subst IsVerdict h.0 v
 -- ---- a fact of the told inputs
 
 pub where_told : (rules layout : Told) (r : rule_sets.Rules) (v : ReadLayout) (top : Option (List ℕ)) (P : ReadLayout → rule_sets.Rules → Type 0) (rule_bytes bytes : List ℕ)
-    → IsInput rule_bytes rules → IsInput bytes layout → Means rule_bytes r → IsReadIn (way_of r) bytes top v → P v r → WhereTold rules layout top P
+    → IsInput rule_bytes rules → IsInput bytes layout → Means rule_bytes r → IsRunLayout bytes top r v → P v r → WhereTold rules layout top P
 where_told (Holds rules) (Holds layout) r v top P rule_bytes bytes a b means read h =
-    record { rule_set = r; meant = subst (λ (xs : List ℕ). Means xs r) a.0 means; layout = v; read = subst (λ (xs : List ℕ). IsRead xs top v) b.0 read.0; way = read.1; is = h }
+    record { rule_set = r; meant = subst (λ (xs : List ℕ). Means xs r) a.0 means; layout = v; read = subst (λ (xs : List ℕ). IsRunLayout xs top r v) b.0 read; is = h }
 where_told rules layout r v top P rule_bytes bytes a b means read h = tt
 
 -- what was read is told so
 pub of_inputs : (p : Paths) (old mid new : Store) (r : rule_sets.Rules) (v : ReadLayout) (P : ReadLayout → rule_sets.Rules → Type 0) → Quiet old mid → ReadAs old mid p.rules (λ bytes. Means bytes r)
-    → ReadAs mid new p.layout (λ bytes. IsReadIn (way_of r) bytes p.top v) → P v r → OfInputs old.file p P
+    → ReadAs mid new p.layout (λ bytes. IsRunLayout bytes p.top r v) → P v r → OfInputs old.file p P
 of_inputs p old mid new r v P quiet rules layout h =
     let told : IsInput layout.bytes (old.file p.layout) = subst (IsInput layout.bytes) (quiet.starts.files p.layout) layout.got.told in
     where_told (old.file p.rules) (old.file p.layout) r v p.top P rules.bytes layout.bytes rules.got.told told rules.is layout.is h
@@ -99,7 +97,7 @@ lists_beside (ToNetlist shapes netlist) l r nl a done P f h = absurd h
 lists_beside (ToChip n seed prefix) l r nl a done P f h = tt
 
 pub flat_listed : (p : Paths) (old mid new : Store) (r : rule_sets.Rules) (v : ReadLayout) (a : Answer) (done : Done) → Quiet old mid → ReadAs old mid p.rules (λ bytes. Means bytes r)
-    → ReadAs mid new p.layout (λ bytes. IsReadIn (way_of r) bytes p.top v) → ((text : List ℕ) (cells rectangles : ℕ) → IsShapesFile v r text cells rectangles → CoversFlat v r text) → IsDone p.outputs v r a done
+    → ReadAs mid new p.layout (λ bytes. IsRunLayout bytes p.top r v) → ((text : List ℕ) (cells rectangles : ℕ) → IsShapesFile v r text cells rectangles → CoversFlat v r text) → IsDone p.outputs v r a done
     → ForShapes p.outputs (λ (path : List ℕ). ListsAs done.files path (IsFlatText old.file p))
 flat_listed p old mid new r v a done quiet rules layout covers made =
     lists_shapes p.outputs v r a done (IsFlatText old.file p)
@@ -166,7 +164,7 @@ lists_netlist_beside (ToNetlist shapes netlist) l r sch a done P f h = absurd h
 lists_netlist_beside (ToChip n seed prefix) l r sch a done P f h = tt
 
 pub netlist_listed : (p : Paths) (old mid new : Store) (r : rule_sets.Rules) (v : ReadLayout) (a : Answer) (done : Done) → Quiet old mid → ReadAs old mid p.rules (λ bytes. Means bytes r)
-    → ReadAs mid new p.layout (λ bytes. IsReadIn (way_of r) bytes p.top v)
+    → ReadAs mid new p.layout (λ bytes. IsRunLayout bytes p.top r v)
     → ((nl : Netlist) (top : ℕ) (bad : List BadGate) (text : List ℕ) → IsNetlistFile v r nl top bad text → ShowsFlat v r text nl top bad) → IsDone p.outputs v r a done
     → ForNetlist p.outputs (λ (path : List ℕ). ListsAs done.files path (IsFlatNetlist old.file p a))
 netlist_listed p old mid new r v a done quiet rules layout shows made =
@@ -200,14 +198,14 @@ netlist_delivered stated old mid new before after o a ready h v =
 -- ---- what is written of a comparison
 
 pub flat_listed_beside : (p : Paths) (old mid new : Store) (r : rule_sets.Rules) (v : ReadLayout) (nl : Netlist) (a : Answer) (done : Done) → Quiet old mid → ReadAs old mid p.rules (λ bytes. Means bytes r)
-    → ReadAs mid new p.layout (λ bytes. IsReadIn (way_of r) bytes p.top v) → ((text : List ℕ) (cells rectangles : ℕ) → IsShapesFile v r text cells rectangles → CoversFlat v r text) → IsDoneBeside p.outputs v r nl a done
+    → ReadAs mid new p.layout (λ bytes. IsRunLayout bytes p.top r v) → ((text : List ℕ) (cells rectangles : ℕ) → IsShapesFile v r text cells rectangles → CoversFlat v r text) → IsDoneBeside p.outputs v r nl a done
     → ForShapes p.outputs (λ (path : List ℕ). ListsAs done.files path (IsFlatText old.file p))
 flat_listed_beside p old mid new r v nl a done quiet rules layout covers made =
     lists_beside p.outputs v r nl a done (IsFlatText old.file p)
     (λ text cells rectangles file. of_inputs p old mid new r v (λ (l : ReadLayout) (q : rule_sets.Rules). CoversFlat l q text) quiet rules layout (covers text cells rectangles file)) made
 
 pub netlist_listed_beside : (p : Paths) (old mid new : Store) (r : rule_sets.Rules) (v : ReadLayout) (sch : Netlist) (a : Answer) (done : Done) → Quiet old mid → ReadAs old mid p.rules (λ bytes. Means bytes r)
-    → ReadAs mid new p.layout (λ bytes. IsReadIn (way_of r) bytes p.top v)
+    → ReadAs mid new p.layout (λ bytes. IsRunLayout bytes p.top r v)
     → ((nl : Netlist) (top : ℕ) (bad : List BadGate) (text : List ℕ) → IsNetlistFile v r nl top bad text → ShowsFlat v r text nl top bad) → IsDoneBeside p.outputs v r sch a done
     → ForNetlist p.outputs (λ (path : List ℕ). ListsAs done.files path (IsFlatNetlist old.file p a))
 netlist_listed_beside p old mid new r v sch a done quiet rules layout shows made =

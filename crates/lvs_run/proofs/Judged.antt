@@ -5,7 +5,6 @@ use Rattle.std.specs.List.{Any}
 use Rattle.cell_graph.specs.Linked.{Linked}
 use Rattle.deep_tables.specs.declared.gates.BadGate.{BadGate}
 use Rattle.gds_layout.specs.declared.layout.Layout.{Layout}
-use Rattle.gds_layout.specs.Layouts.{IsRead}
 use Rattle.match_laws.specs.Answer.{Answer as PairAnswer, IsDifference}
 use Rattle.match_report.specs.Report.{answers_of}
 use Rattle.match_report.specs.declared.report.Compared.{Compared}
@@ -160,20 +159,19 @@ module _ (alignable : CombinedAlignableLaw) (one : OneRunVerdictLaw) (uneven : U
   }
 
 -- what a netlist's file shows
-shows_in : {l : Layout} {r : Rules} {nl : Netlist} {cells : ℕ} {spelled told : List ℕ} {counts : Counts} {a : Answer} → ShowsFlatLaw → (bytes : List ℕ) (name : Option (List ℕ)) → IsRead bytes name l
-    → (h : IsReported l r nl cells spelled told counts a) → ShowsFlat l r spelled h.netlist h.top h.bad
-shows_in {l} {r} {nl} {cells} {spelled} shows bytes name read h = shows bytes name l r h.netlist h.top h.bad spelled read h.comparable.rules h.netlist_file
+shows_in : {l : Layout} {r : Rules} {nl : Netlist} {cells : ℕ} {spelled told : List ℕ} {counts : Counts} {a : Answer} → ShowsFlatLaw → (h : IsReported l r nl cells spelled told counts a) → ShowsFlat l r spelled h.netlist h.top h.bad
+shows_in {l} {r} {nl} {cells} {spelled} shows h = shows l r h.netlist h.top h.bad spelled h.comparable.rules h.netlist_file
 
 pub verdicts_law : CombinedAlignableLaw → ShowsFlatLaw → OneRunVerdictLaw → UnevenPairLaw → CarriedPairLaw → KeptPairLaw → UndecidedLaw → ExactReportLaw → AsBeforeLaw → MatchingLaw → VerdictsLaw
-verdicts_law alignable shows one uneven carried kept undecided exact before joined bytes name l r nl cells spelled told counts a read h =
-    has_verdicts alignable one uneven carried kept undecided exact before joined l r nl cells spelled told counts a h (shows_in shows bytes name read h)
+verdicts_law alignable shows one uneven carried kept undecided exact before joined l r nl cells spelled told counts a h =
+    has_verdicts alignable one uneven carried kept undecided exact before joined l r nl cells spelled told counts a h (shows_in shows h)
 
 pub match_law : ShowsFlatLaw → MatchedReportLaw → MatchLaw
-match_law shows matched bytes name l r nl cells spelled told counts a read h good =
+match_law shows matched l r nl cells spelled told counts a h good =
     let same = same_verdict h.verdict comparison.Match (sym h.answer ∙ good) in
     let file = subst (λ (v : Comparison). IsReportFile l.design r (compared_of r h.netlist) h.top h.bad (compared_of r nl) told h.pairs v) same h.report_file in
     let cells = h.netlist_file.of_cells in
     record {
-      report = record { netlist = h.netlist; top = h.top; bad = h.bad; shows = shows_in shows bytes name read h; pairs = h.pairs; verdict = comparison.Match; file = file; answer = refl };
+      report = record { netlist = h.netlist; top = h.top; bad = h.bad; shows = shows_in shows h; pairs = h.pairs; verdict = comparison.Match; file = file; answer = refl };
       is = matched l.design r l.header.unit_pm _ _ _ h.netlist h.top h.bad nl told h.pairs cells.right cells.top_is h.comparable.layout h.comparable.order h.comparable.schematic file;
     }

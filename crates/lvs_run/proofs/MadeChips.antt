@@ -1,5 +1,5 @@
 -- What the texts of a chip come to.
-use Rattle.std.proofs.Common.{◌≡◌, ◌≢◌, ◌↔◌, inl, inr, ◌<◌, ◌≤◌, ◌++◌, ℕ, Bool, true, false, List, [], ◌∷◌, length, Option, Some, None, IsNone, IfSome, Result, Ok, Err, IfOk, codes, if◌then◌else◌, refl, sym, ap, subst, ◌∙◌, arith}
+use Rattle.std.proofs.Common.{◌≡◌, ◌≢◌, ◌↔◌, inl, inr, ◌<◌, ◌≤◌, ◌++◌, ℕ, Bool, true, false, List, [], ◌∷◌, length, Option, Some, None, IsNone, IfSome, Result, Ok, Err, IfOk, codes, refl, sym, ap, subst, ◌∙◌, arith}
 use Rattle.std.specs.Str.{bytes_eq}
 use Rattle.std.proofs.lemmas.List.{append_cancel_left}
 use Rattle.std.proofs.lemmas.Slice.Eq.{bytes_eq-Decides}
@@ -7,9 +7,7 @@ use Rattle.lvs_outside.specs.Store.{Store, Told, NoFile, Holds}
 use Rattle.lvs_outside.specs.Loops.{limit}
 use Rattle.lvs_outside.specs.Files.{File, AreApart}
 use Rattle.gds_layout.specs.declared.layout.Layout.{Layout as ReadLayout}
-use Rattle.gds_layout.specs.Layouts.{IsFaultOf}
-use Rattle.rule_layers.specs.Meaning.{way_of}
-use Rattle.lvs_run.proofs.Ways.{IsReadIn}
+use Rattle.run_layout.specs.RunLayout.{IsRunFault, IsRunLayout}
 use Rattle.gds_layout.specs.declared.layout.LayoutFault.{LayoutFault}
 use Rattle.gds_layout.specs.declared.layout.LayoutFault.TheVariants as layout
 use Rattle.plain_netlist.specs.Netlist.{Netlist}
@@ -129,9 +127,9 @@ pub rules_fault : (path text : List ℕ) (fault : RuleFault) → length text ≤
 rules_fault path text rule.NoMemory short h = tt
 rules_fault path text fault short h = (short, h)
 
-pub layout_fault : (path text : List ℕ) (top : Option (List ℕ)) (fault : LayoutFault) → length text ≤ limit → IsFaultOf text top fault → NoLayoutIn path text top (refused_layout fault)
-layout_fault path text top layout.NoMemory short h = tt
-layout_fault path text top fault short h = (short, h)
+pub layout_fault : (path text : List ℕ) (top : Option (List ℕ)) (r : rule_sets.Rules) (fault : LayoutFault) → length text ≤ limit → IsRunFault text top r fault → NoLayoutIn path text top r (refused_layout fault)
+layout_fault path text top r layout.NoMemory short h = tt
+layout_fault path text top r fault short h = (short, h)
 
 pub schematic_fault : (path text : List ℕ) (fault : SpiceFault) → length text ≤ limit → SaysFirst read_limit text fault → NoSchematicIn path text (refused_schematic fault)
 schematic_fault path text spice.NoMemory short h = tt
@@ -151,7 +149,7 @@ pub record IsChip (n seed : ℕ) (r : rule_sets.Rules) (l : ReadLayout) (nl : Ne
   pub short_rules : length rules_text ≤ limit
   pub rules : Means rules_text r
   pub short_layout : length (layout_text n seed) ≤ limit
-  pub layout : IsReadIn (way_of r) (layout_text n seed) (Some (codes "TOP")) l
+  pub layout : IsRunLayout (layout_text n seed) (Some (codes "TOP")) r l
   pub short_schematic : length (schematic_text n seed) ≤ limit
   pub schematic : SpiceMeans read_limit (schematic_text n seed) nl
 
@@ -192,7 +190,7 @@ module _ (n seed : ℕ) (prefix : List ℕ) (s : Store) where
         → IsOutcome (Some (chip_paths n seed prefix)) (told_of n seed prefix s) a done
     on_layout a done h = on_rules a done (rules_read _ _ (told_of n seed prefix s) (chip_paths n seed prefix) a done rules_text (rules_in short_rules) (SoundRules r rules h))
 
-    pub no_layout : (a : Answer) → NoLayoutIn (layout_at prefix) (layout_text n seed) (Some (codes "TOP")) a → Stops (Some (chip_paths n seed prefix)) s s a
+    pub no_layout : (a : Answer) → NoLayoutIn (layout_at prefix) (layout_text n seed) (Some (codes "TOP")) r a → Stops (Some (chip_paths n seed prefix)) s s a
     no_layout (RefusedLong q) h = record {
       cause = (
         (refl, inr (inl h.0)),
@@ -203,14 +201,14 @@ module _ (n seed : ℕ) (prefix : List ℕ) (s : Store) where
       comes = λ done. on_layout (RefusedLong q) done (long_layout _ (told_of n seed prefix s) r (chip_paths n seed prefix) (RefusedLong q) done (long_of _ (layout_text n seed) (told_layout n seed prefix s.file) h.1) (ap RefusedLong h.0));
     }
     no_layout (RefusedLayout fault) h = record {
-      cause = ((refl, h.1), refl);
+      cause = ((refl, (r, rules, h.1)), refl);
       faults = refl;
       comes = λ done. on_layout (RefusedLayout fault) done (layout_read _ (told_of n seed prefix s) r (chip_paths n seed prefix) (RefusedLayout fault) done (layout_text n seed) (layout_in h.0) (FaultyStream fault h.1 refl));
     }
     no_layout NoMemory h = no_memory _ s
     no_layout a h = absurd h
 
-    module _ (l : ReadLayout) (short_layout : length (layout_text n seed) ≤ limit) (layout : IsReadIn (way_of r) (layout_text n seed) (Some (codes "TOP")) l) where
+    module _ (l : ReadLayout) (short_layout : length (layout_text n seed) ≤ limit) (layout : IsRunLayout (layout_text n seed) (Some (codes "TOP")) r l) where
       on_schematic : (a : Answer) (done : Done) → OfSchematic (told_of n seed prefix s (schematic_at prefix)) (schematic_at prefix) (ToChip n seed prefix) l r a done
           → IsOutcome (Some (chip_paths n seed prefix)) (told_of n seed prefix s) a done
       on_schematic a done h = on_layout a done (layout_read _ (told_of n seed prefix s) r (chip_paths n seed prefix) a done (layout_text n seed) (layout_in short_layout) (SoundStream l layout h))
@@ -236,7 +234,7 @@ module _ (n seed : ℕ) (prefix : List ℕ) (s : Store) where
 -- ---- what can't be merged
 
 wide_chip : (n seed : ℕ) (r : rule_sets.Rules) (l : ReadLayout) (nl : Netlist) (a : Answer) → IsChip n seed r l nl → IsTooWide l r nl a → IsWideChip n seed (Some (codes "TOP")) a
-wide_chip n seed r l nl a chip h = record { rules = r; means = chip.rules; layout = l; read = chip.layout.0; way = chip.layout.1; schematic = nl; meant = chip.schematic; wide = h }
+wide_chip n seed r l nl a chip h = record { rules = r; means = chip.rules; layout = l; read = chip.layout; schematic = nl; meant = chip.schematic; wide = h }
 
 module _ (n seed : ℕ) (prefix : List ℕ) (s : Store) (r : rule_sets.Rules) (l : ReadLayout) (nl : Netlist) (chip : IsChip n seed r l nl) where
   wide_comes : (a : Answer) (done : Done) → IsTooWide l r nl a → IsOutcome (Some (chip_paths n seed prefix)) (told_of n seed prefix s) a done
@@ -289,8 +287,8 @@ chip_ready n seed prefix s r l nl o chip verdicts matches made =
           (schematic_read _ (schematic_at prefix) (ToChip n seed prefix) l r a made.done (schematic_text n seed) (schematic_in n seed prefix s chip.short_schematic) (SoundCards nl chip.schematic made.is));
       flat = tt;
       netlist = tt;
-      verdicts = report_of n seed prefix s r l nl (HasVerdicts a) made.done.files ran.spelled ran.report chip (verdicts (layout_text n seed) (Some (codes "TOP")) l r nl (length l.design.order) ran.spelled ran.report ran.counts a chip.layout.0 ran.reported);
-      matched = λ good. report_of n seed prefix s r l nl IsMatchOf made.done.files ran.spelled ran.report chip (matches (layout_text n seed) (Some (codes "TOP")) l r nl (length l.design.order) ran.spelled ran.report ran.counts a chip.layout.0 ran.reported good);
+      verdicts = report_of n seed prefix s r l nl (HasVerdicts a) made.done.files ran.spelled ran.report chip (verdicts l r nl (length l.design.order) ran.spelled ran.report ran.counts a ran.reported);
+      matched = λ good. report_of n seed prefix s r l nl IsMatchOf made.done.files ran.spelled ran.report chip (matches l r nl (length l.design.order) ran.spelled ran.report ran.counts a ran.reported good);
     }
 
 -- the top's name is one
@@ -305,23 +303,23 @@ pub no_rules_of : (n seed : ℕ) (prefix : List ℕ) (s : Store) (text : List �
 no_rules_of n seed prefix s text a e h = no_rules n seed prefix s a (subst (λ (xs : List ℕ). NoRulesIn (rules_at prefix) xs a) e h)
 
 pub no_layout_of : (n seed : ℕ) (prefix : List ℕ) (s : Store) (one two : List ℕ) (top : Option (List ℕ)) (r : rule_sets.Rules) (a : Answer) → one ≡ rules_text → two ≡ layout_text n seed → top ≡ Some (codes "TOP")
-    → length one ≤ limit → Means one r → NoLayoutIn (layout_at prefix) two top a → Stops (Some (chip_paths n seed prefix)) s s a
+    → length one ≤ limit → Means one r → NoLayoutIn (layout_at prefix) two top r a → Stops (Some (chip_paths n seed prefix)) s s a
 no_layout_of n seed prefix s one two top r a e f t short means h =
     no_layout n seed prefix s r (subst (λ (xs : List ℕ). length xs ≤ limit) e short) (subst (λ (xs : List ℕ). Means xs r) e means) a
-    (subst (λ (o : Option (List ℕ)). NoLayoutIn (layout_at prefix) (layout_text n seed) o a) t (subst (λ (xs : List ℕ). NoLayoutIn (layout_at prefix) xs top a) f h))
+    (subst (λ (o : Option (List ℕ)). NoLayoutIn (layout_at prefix) (layout_text n seed) o r a) t (subst (λ (xs : List ℕ). NoLayoutIn (layout_at prefix) xs top r a) f h))
 
-top_so : (r : rule_sets.Rules) (n seed : ℕ) (two : List ℕ) (top : Option (List ℕ)) (l : ReadLayout) → two ≡ layout_text n seed → top ≡ Some (codes "TOP") → IsReadIn (way_of r) two top l → IsReadIn (way_of r) (layout_text n seed) (Some (codes "TOP")) l
-top_so r n seed two top l f t read = subst (λ (o : Option (List ℕ)). IsReadIn (way_of r) (layout_text n seed) o l) t (subst (λ (xs : List ℕ). IsReadIn (way_of r) xs top l) f read)
+top_so : (r : rule_sets.Rules) (n seed : ℕ) (two : List ℕ) (top : Option (List ℕ)) (l : ReadLayout) → two ≡ layout_text n seed → top ≡ Some (codes "TOP") → IsRunLayout two top r l → IsRunLayout (layout_text n seed) (Some (codes "TOP")) r l
+top_so r n seed two top l f t read = subst (λ (o : Option (List ℕ)). IsRunLayout (layout_text n seed) o r l) t (subst (λ (xs : List ℕ). IsRunLayout xs top r l) f read)
 
 pub no_schematic_of : (n seed : ℕ) (prefix : List ℕ) (s : Store) (one two three : List ℕ) (top : Option (List ℕ)) (r : rule_sets.Rules) (l : ReadLayout) (a : Answer)
-    → one ≡ rules_text → two ≡ layout_text n seed → three ≡ schematic_text n seed → top ≡ Some (codes "TOP") → length one ≤ limit → Means one r → length two ≤ limit → IsReadIn (way_of r) two top l
+    → one ≡ rules_text → two ≡ layout_text n seed → three ≡ schematic_text n seed → top ≡ Some (codes "TOP") → length one ≤ limit → Means one r → length two ≤ limit → IsRunLayout two top r l
     → NoSchematicIn (schematic_at prefix) three a → Stops (Some (chip_paths n seed prefix)) s s a
 no_schematic_of n seed prefix s one two three top r l a e f g t short means size read h =
     no_schematic n seed prefix s r (subst (λ (xs : List ℕ). length xs ≤ limit) e short) (subst (λ (xs : List ℕ). Means xs r) e means) l (subst (λ (xs : List ℕ). length xs ≤ limit) f size)
     (top_so r n seed two top l f t read) a (subst (λ (xs : List ℕ). NoSchematicIn (schematic_at prefix) xs a) g h)
 
 pub chip_of : (n seed : ℕ) (one two three : List ℕ) (top : Option (List ℕ)) (r : rule_sets.Rules) (l : ReadLayout) (nl : Netlist)
-    → one ≡ rules_text → two ≡ layout_text n seed → three ≡ schematic_text n seed → top ≡ Some (codes "TOP") → length one ≤ limit → Means one r → length two ≤ limit → IsReadIn (way_of r) two top l
+    → one ≡ rules_text → two ≡ layout_text n seed → three ≡ schematic_text n seed → top ≡ Some (codes "TOP") → length one ≤ limit → Means one r → length two ≤ limit → IsRunLayout two top r l
     → length three ≤ limit → SpiceMeans read_limit three nl → IsChip n seed r l nl
 chip_of n seed one two three top r l nl e f g t short means size read fits says = record {
   short_rules = subst (λ (xs : List ℕ). length xs ≤ limit) e short;

@@ -2,8 +2,7 @@
 use Rattle.std.proofs.Common.{◌≡◌, ℕ, ◌+◌, ◌-◌, ◌^◌, ◌<◌, List, Option, Some, None, refl, subst, sym, ◌∙◌}
 use Rattle.lvs_outside.specs.Store.{HasRoom, Store, Told}
 use Rattle.gds_layout.specs.declared.layout.Layout.{Layout}
-use Rattle.rule_layers.specs.Meaning.{way_of}
-use Rattle.lvs_run.proofs.Ways.{IsReadIn}
+use Rattle.run_layout.specs.RunLayout.{IsRunLayout, RunFitsLaw}
 use Rattle.netlist_file.specs.Flat.{ShowsFlatLaw}
 use Rattle.rule_text.specs.Rules.{Rules}
 use Rattle.rule_text.specs.Reading.{Means}
@@ -37,8 +36,8 @@ reads_none (files.Shapes shapes) = refl
 reads_none (files.Netlist shapes netlist) = refl
 
 pub ready_alone : (p : Paths) (old mid new : Store) (r : Rules) (l : Layout) (o : Output) → p.shared ≡ None → ReadsFiles p.outputs → Quiet old mid → ReadAs old mid p.rules (λ bytes. Means bytes r) → IsSound r
-    → ReadAs mid new p.layout (λ bytes. IsReadIn (way_of r) bytes p.top l) → CoversFlatLaw → ShowsFlatLaw → IsOutput p.outputs l r o → IsReady (Some p) old new o
-ready_alone p old mid new r l o apart reads quiet rules sound layout covers shows made =
+    → ReadAs mid new p.layout (λ bytes. IsRunLayout bytes p.top r l) → RunFitsLaw → CoversFlatLaw → ShowsFlatLaw → IsOutput p.outputs l r o → IsReady (Some p) old new o
+ready_alone p old mid new r l o apart reads quiet rules sound layout fits covers shows made =
     let a = verdict_of o.verdict in
     record {
       paths = p;
@@ -50,8 +49,8 @@ ready_alone p old mid new r l o apart reads quiet rules sound layout covers show
       faults = layout.got.faults ∙ rules.got.faults;
       line = made.line;
       comes = outcome_made p old mid new r l a made.done apart reads quiet rules layout made.is;
-      flat = flat_listed p old mid new r l a made.done quiet rules layout (λ text cells rectangles file. covers layout.bytes p.top l r text cells rectangles layout.is.0 sound file) made.is;
-      netlist = netlist_listed p old mid new r l a made.done quiet rules layout (λ nl top bad text file. shows layout.bytes p.top l r nl top bad text layout.is.0 sound file) made.is;
+      flat = flat_listed p old mid new r l a made.done quiet rules layout (λ text cells rectangles file. covers l r text cells rectangles (fits layout.bytes p.top r l layout.is) sound file) made.is;
+      netlist = netlist_listed p old mid new r l a made.done quiet rules layout (λ nl top bad text file. shows l r nl top bad text sound file) made.is;
       verdicts = lists_alone p (inputs_of p.outputs old.file) l r a made.done (HasVerdicts a) made.is;
       matched = λ good. lists_alone p (inputs_of p.outputs old.file) l r a made.done IsMatchOf made.is;
     }
@@ -61,9 +60,9 @@ report_so : (p : Paths) (file : List ℕ → Told) (done : Done) (P : TextsFact)
 report_so p file done P reads h = subst (λ (f : List ℕ → Told). ListsReport f p done.files P) (sym (told_files p.outputs file reads)) h
 
 pub ready_beside : (p : Paths) (old mid late new : Store) (r : Rules) (l : Layout) (path : List ℕ) (o : Output) → p.shared ≡ None → ReadsFiles p.outputs → schematic_path p.outputs ≡ Some path → Quiet old mid → Quiet mid late
-    → ReadAs old mid p.rules (λ bytes. Means bytes r) → IsSound r → ReadAs mid late p.layout (λ bytes. IsReadIn (way_of r) bytes p.top l) → CoversFlatLaw → ShowsFlatLaw → VerdictsLaw → MatchLaw
+    → ReadAs old mid p.rules (λ bytes. Means bytes r) → IsSound r → ReadAs mid late p.layout (λ bytes. IsRunLayout bytes p.top r l) → RunFitsLaw → CoversFlatLaw → ShowsFlatLaw → VerdictsLaw → MatchLaw
     → IsBeside p.outputs l r late new path o → IsReady (Some p) old new o
-ready_beside p old mid late new r l path o apart reads beside quiet later rules sound layout covers shows judged matches made =
+ready_beside p old mid late new r l path o apart reads beside quiet later rules sound layout fits covers shows judged matches made =
     let a = verdict_of o.verdict in
     let out = made.output in
     let nl = made.netlist in
@@ -78,8 +77,8 @@ ready_beside p old mid late new r l path o apart reads beside quiet later rules 
       faults = schematic.got.faults ∙ (layout.got.faults ∙ rules.got.faults);
       line = out.line;
       comes = outcome_beside p old mid late new r l nl path a out.done apart reads beside quiet later rules layout schematic out.is;
-      flat = flat_listed_beside p old mid late r l nl a out.done quiet rules layout (λ text cells rectangles file. covers layout.bytes p.top l r text cells rectangles layout.is.0 sound file) out.is;
-      netlist = netlist_listed_beside p old mid late r l nl a out.done quiet rules layout (λ n top bad text file. shows layout.bytes p.top l r n top bad text layout.is.0 sound file) out.is;
+      flat = flat_listed_beside p old mid late r l nl a out.done quiet rules layout (λ text cells rectangles file. covers l r text cells rectangles (fits layout.bytes p.top r l layout.is) sound file) out.is;
+      netlist = netlist_listed_beside p old mid late r l nl a out.done quiet rules layout (λ n top bad text file. shows l r n top bad text sound file) out.is;
       verdicts = report_so p old.file out.done (HasVerdicts a) reads (verdicts_beside p old mid late new r l nl path a out.done beside quiet later rules layout schematic judged out.is);
       matched = λ good. report_so p old.file out.done IsMatchOf reads (matched_beside p old mid late new r l nl path a out.done beside quiet later rules layout schematic matches out.is good);
     }

@@ -4,8 +4,7 @@ use Rattle.lvs_outside.specs.Store.{Store, Told, Untold, NoFile, Holds}
 use Rattle.lvs_outside.specs.Summary.{SinkState}
 use Rattle.lvs_outside.specs.Files.{AreApart, files_of}
 use Rattle.gds_layout.specs.declared.layout.Layout.{Layout}
-use Rattle.rule_layers.specs.Meaning.{way_of}
-use Rattle.lvs_run.proofs.Ways.{IsReadIn}
+use Rattle.run_layout.specs.RunLayout.{IsRunLayout}
 use Rattle.plain_netlist.specs.Netlist.{Netlist}
 use Rattle.rule_text.specs.Rules.{Rules}
 use Rattle.rule_text.specs.Reading.{Means}
@@ -47,7 +46,7 @@ lists_texts (ToChip n seed prefix) path l r nl a done Q e f h =
 
 -- what was read and compared is told so
 module _ (p : Paths) (old mid late new : Store) (r : Rules) (l : Layout) (nl : Netlist) (path : List ℕ) (a : Answer) (done : Done) (beside : schematic_path p.outputs ≡ Some path)
-    (quiet : Quiet old mid) (later : Quiet mid late) (rules : ReadAs old mid p.rules (λ bytes. Means bytes r)) (layout : ReadAs mid late p.layout (λ bytes. IsReadIn (way_of r) bytes p.top l))
+    (quiet : Quiet old mid) (later : Quiet mid late) (rules : ReadAs old mid p.rules (λ bytes. Means bytes r)) (layout : ReadAs mid late p.layout (λ bytes. IsRunLayout bytes p.top r l))
     (schematic : ReadAs late new path (λ bytes. SpiceMeans read_limit bytes nl)) where
   told_texts : (P : TextsFact) → ((cells : ℕ) (spelled report : List ℕ) (counts : Counts) → IsReported l r nl cells spelled report counts a → P l r nl spelled report) → IsDoneBeside p.outputs l r nl a done
       → ListsReport old.file p done.files P
@@ -58,10 +57,10 @@ module _ (p : Paths) (old mid late new : Store) (r : Rules) (l : Layout) (nl : N
       (of_inputs p old mid late r l (λ (v : Layout) (q : Rules). P v q nl spelled report) quiet rules layout (f cells spelled report counts h))) made
 
   pub verdicts_beside : VerdictsLaw → IsDoneBeside p.outputs l r nl a done → ListsReport old.file p done.files (HasVerdicts a)
-  verdicts_beside law made = told_texts (HasVerdicts a) (λ cells spelled report counts h. law layout.bytes p.top l r nl cells spelled report counts a layout.is.0 h) made
+  verdicts_beside law made = told_texts (HasVerdicts a) (λ cells spelled report counts h. law l r nl cells spelled report counts a h) made
 
   pub matched_beside : MatchLaw → IsDoneBeside p.outputs l r nl a done → a ≡ Good → ListsReport old.file p done.files IsMatchOf
-  matched_beside law made good = told_texts IsMatchOf (λ cells spelled report counts h. law layout.bytes p.top l r nl cells spelled report counts a layout.is.0 h good) made
+  matched_beside law made good = told_texts IsMatchOf (λ cells spelled report counts h. law l r nl cells spelled report counts a h good) made
 
 -- a command that reads no schematic writes no report
 no_report : (o : Outputs) (l : Layout) (r : Rules) (a : Answer) (done : Done) (Q : List ℕ → List ℕ → List ℕ → Type 0) (C : List ℕ → Type 0) → IsDone o l r a done → ForReport o Q C

@@ -4,8 +4,7 @@ use Rattle.lvs_outside.specs.Store.{Told, Untold, NoFile, Holds}
 use Rattle.lvs_outside.specs.Loops.{limit}
 use Rattle.gds_layout.specs.declared.layout.Layout.{Layout}
 use Rattle.gds_layout.specs.declared.layout.LayoutFault.{LayoutFault}
-use Rattle.rule_layers.specs.Meaning.{way_of}
-use Rattle.lvs_run.proofs.Ways.{IsReadIn}
+use Rattle.run_layout.specs.RunLayout.{IsRunLayout}
 use Rattle.rule_text.specs.declared.fault.RuleFault.{RuleFault}
 use Rattle.rule_text.specs.Rules.{Rules}
 use Rattle.rule_text.specs.Reading.{Means, IsFirstFault}
@@ -40,8 +39,8 @@ OfBeside (Some path) file o l r a done = OfSchematic (file path) path o l r a do
 
 -- the layout's bytes: their first fault, or their layout, and what the rules make of it
 pub data OfStream (bytes : List ℕ) (file : List ℕ → Told) (p : Paths) (r : Rules) (a : Answer) (done : Done) : Type 0 where
-  FaultyStream : (fault : LayoutFault) → IsFirstLayoutFault bytes p.top fault → a ≡ RefusedLayout fault → OfStream bytes file p r a done
-  SoundStream : (l : Layout) → IsReadIn (way_of r) bytes p.top l → OfBeside (schematic_path p.outputs) file p.outputs l r a done → OfStream bytes file p r a done
+  FaultyStream : (fault : LayoutFault) → IsFirstLayoutFault bytes p.top r fault → a ≡ RefusedLayout fault → OfStream bytes file p r a done
+  SoundStream : (l : Layout) → IsRunLayout bytes p.top r l → OfBeside (schematic_path p.outputs) file p.outputs l r a done → OfStream bytes file p r a done
 
 -- the layout's file; nothing is said of one that isn't told
 abbrev pub OfLayout : Told → (List ℕ → Told) → Rules → Paths → Answer → Done → Type 0
@@ -102,7 +101,7 @@ module _ (said : Option Paths) (file : List ℕ → Told) (a : Answer) (done : D
   of_schematic_file p r l path t c told h =
       let beside = subst (λ (o : Option (List ℕ)). OfBeside o file p.outputs l r a done) (sym c.beside) (subst (λ (u : Told). OfSchematic u path p.outputs l r a done) (sym told) h) in
       let reads = c.reads in
-      of_layout_file p r (Holds reads.bytes) reads.rules reads.held.told (inr (reads.held.short, SoundStream l (reads.read, reads.way) beside))
+      of_layout_file p r (Holds reads.bytes) reads.rules reads.held.told (inr (reads.held.short, SoundStream l reads.read beside))
 
   pub in_turn : IsOutcome said file a done → InTurn said file a done
   in_turn (WrongWords e f) = subst (λ (s : Option Paths). InTurn s file a done) (sym e) f
@@ -113,8 +112,8 @@ module _ (said : Option Paths) (file : List ℕ → Told) (a : Answer) (done : D
   in_turn (NoLayout p r reads told e) = of_layout_file p r NoFile reads told e
   in_turn (LongLayout p r bytes reads told long e) = of_layout_file p r (Holds bytes) reads told (inl (long, e))
   in_turn (BadLayout p r bytes fault reads held first e) = of_layout_file p r (Holds bytes) reads held.told (inr (held.short, FaultyStream fault first e))
-  in_turn (Made p r l reads made) = of_layout_file p r (Holds reads.bytes) reads.rules reads.held.told (inr (reads.held.short, SoundStream l (reads.read, reads.way) (made_alone p.outputs file l r a done made)))
-  in_turn (TooFar p r l reads far) = of_layout_file p r (Holds reads.bytes) reads.rules reads.held.told (inr (reads.held.short, SoundStream l (reads.read, reads.way) (refused_alone p.outputs file l r a done far)))
+  in_turn (Made p r l reads made) = of_layout_file p r (Holds reads.bytes) reads.rules reads.held.told (inr (reads.held.short, SoundStream l reads.read (made_alone p.outputs file l r a done made)))
+  in_turn (TooFar p r l reads far) = of_layout_file p r (Holds reads.bytes) reads.rules reads.held.told (inr (reads.held.short, SoundStream l reads.read (refused_alone p.outputs file l r a done far)))
   in_turn (NoSchematic p r l path c told e) = of_schematic_file p r l path NoFile c told e
   in_turn (LongSchematic p r l path bytes c told long e) = of_schematic_file p r l path (Holds bytes) c told (inl (long, e))
   in_turn (BadSchematic p r l path bytes fault c held first e) = of_schematic_file p r l path (Holds bytes) c held.told (inr (held.short, FaultyCards fault first e))
@@ -144,7 +143,7 @@ module _ (said : Option Paths) (file : List ℕ → Told) (a : Answer) (done : D
 
   by_stream : (p : Paths) (r : Rules) (bytes : List ℕ) → ReadsRules said file p r → HasFile file p.layout bytes → OfStream bytes file p r a done → IsOutcome said file a done
   by_stream p r bytes reads held (FaultyStream fault first e) = BadLayout p r bytes fault reads held first e
-  by_stream p r bytes reads held (SoundStream l read h) = by_beside p r l (schematic_path p.outputs) (record { rules = reads; bytes = bytes; held = held; read = read.0; way = read.1 }) refl h
+  by_stream p r bytes reads held (SoundStream l read h) = by_beside p r l (schematic_path p.outputs) (record { rules = reads; bytes = bytes; held = held; read = read }) refl h
 
   by_layout : (p : Paths) (r : Rules) (t : Told) → ReadsRules said file p r → file p.layout ≡ t → OfLayout t file r p a done → IsOutcome said file a done
   by_layout p r Untold reads told h = UntoldLayout p r reads told

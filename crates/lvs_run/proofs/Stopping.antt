@@ -2,9 +2,7 @@
 use Rattle.std.proofs.Common.{◌≡◌, ◌⊎◌, inl, inr, ◌+◌, ◌<◌, ℕ, List, [], ◌∷◌, Option, Some, None, refl, sym, ap, subst, ◌∙◌, length}
 use Rattle.lvs_outside.specs.Store.{Store, Told, Untold, NoFile, Holds, IsAbsent, Open, Reading}
 use Rattle.gds_layout.specs.declared.layout.Layout.{Layout}
-use Rattle.gds_layout.specs.Layouts.{IsFaultOf}
-use Rattle.rule_layers.specs.Meaning.{way_of}
-use Rattle.lvs_run.proofs.Ways.{IsReadIn}
+use Rattle.run_layout.specs.RunLayout.{IsRunFault, IsRunLayout}
 use Rattle.gds_layout.specs.declared.layout.LayoutFault.{LayoutFault}
 use Rattle.gds_layout.specs.declared.layout.LayoutFault.TheVariants as layout
 use Rattle.rule_text.specs.declared.fault.RuleFault.{RuleFault}
@@ -40,9 +38,9 @@ rules_faults old new rule.NoMemory h = h
 rules_faults old new fault h = h
 
 -- so of the layout
-pub layout_refused : (old new : Store) (path bytes : List ℕ) (top : Option (List ℕ)) (fault : LayoutFault) → Got old new path bytes → IsFaultOf bytes top fault → NoLayout old new path top (refused_layout fault)
-layout_refused old new path bytes top layout.NoMemory got h = tt
-layout_refused old new path bytes top fault got h = record { bytes = bytes; got = got; is = h }
+pub layout_refused : (old new : Store) (path bytes : List ℕ) (top : Option (List ℕ)) (r : Rules) (fault : LayoutFault) → Got old new path bytes → IsRunFault bytes top r fault → NoLayout old new path top r (refused_layout fault)
+layout_refused old new path bytes top r layout.NoMemory got h = tt
+layout_refused old new path bytes top r fault got h = record { bytes = bytes; got = got; is = h }
 
 pub layout_faults : (old new : Store) (fault : LayoutFault) → new.faults ≡ old.faults → DepotFaults (refused_layout fault) old new
 layout_faults old new layout.NoMemory h = h
@@ -195,7 +193,7 @@ module _ (p : Paths) (old mid new : Store) (r : Rules) (apart : p.shared ≡ Non
       (rules_read (old.file p.rules) (old.file p.layout) old.file p a done rules.bytes rules.got.told
       (SoundRules r rules.is (subst (λ (t : Told). OfLayout t old.file r p a done) same_file h)))
 
-  layout_cause : (a : Answer) → NoLayout mid new p.layout p.top a → HasCauseIn (Some p) old new a
+  layout_cause : (a : Answer) → NoLayout mid new p.layout p.top r a → HasCauseIn (Some p) old new a
   layout_cause (RefusedAbsent path) h = ((apart, inr (inl h.0)), record { one = h.2.one ∙ ap (λ (n : ℕ). n + 1) rules.got.absent; last = h.2.last ∙ sym h.0; closed = h.2.closed })
   layout_cause (RefusedLong path) h = ((apart, inr (inl h.0)), of_files p.outputs _ _ reads (subst (IsReadTooFar new.opened) (sym h.0) h.2), h.3 ∙ rules.got.absent)
   layout_cause (RefusedLayout fault) h = ((apart, of_files p.outputs _ _ reads (read_whole old new p.layout h.bytes new.opened h.got.opened (subst (IsInput h.bytes) same_file h.got.told))), h.got.absent ∙ rules.got.absent)
@@ -203,7 +201,7 @@ module _ (p : Paths) (old mid new : Store) (r : Rules) (apart : p.shared ≡ Non
   layout_cause NoMemory h = tt
   layout_cause a h = absurd h
 
-  layout_comes : (a : Answer) → NoLayout mid new p.layout p.top a → ComesOf (Some p) old.file a
+  layout_comes : (a : Answer) → NoLayout mid new p.layout p.top r a → ComesOf (Some p) old.file a
   layout_comes (RefusedAbsent path) h = λ done. on_layout (RefusedAbsent path) done (absent_layout (mid.file p.layout) old.file r p (RefusedAbsent path) done h.1 (ap RefusedAbsent h.0))
   layout_comes (RefusedLong path) h = λ done. on_layout (RefusedLong path) done (long_layout (mid.file p.layout) old.file r p (RefusedLong path) done h.1 (ap RefusedLong h.0))
   layout_comes (RefusedLayout fault) h = λ done. on_layout (RefusedLayout fault) done (layout_read (mid.file p.layout) old.file r p (RefusedLayout fault) done h.bytes h.got.told (FaultyStream fault h.is refl))
@@ -212,7 +210,7 @@ module _ (p : Paths) (old mid new : Store) (r : Rules) (apart : p.shared ≡ Non
   layout_comes a h = absurd h
 
 pub layout_stop : (p : Paths) (old mid new : Store) (r : Rules) (a : Answer) → p.shared ≡ None → ReadsFiles p.outputs → Quiet old mid → ReadAs old mid p.rules (λ bytes. Means bytes r)
-    → RefusesLayout mid new p.layout p.top a → Stops (Some p) old new a
+    → RefusesLayout mid new p.layout p.top r a → Stops (Some p) old new a
 layout_stop p old mid new r a apart reads quiet rules h = record {
   cause = layout_cause p old mid new r apart reads quiet rules a h.why;
   faults = faults_since old mid new a rules.got.faults h.faults;
@@ -225,7 +223,7 @@ memory_stop p old mid new rules layout a b = record { cause = tt; faults = b.fau
 
 -- the rules and the layout were read, and what comes of them is the outcome
 comes_beside : (p : Paths) (old mid new : Store) (r : Rules) (l : Layout) (a : Answer) (done : Done) → p.shared ≡ None → ReadsFiles p.outputs → Quiet old mid → ReadAs old mid p.rules (λ bytes. Means bytes r)
-    → ReadAs mid new p.layout (λ bytes. IsReadIn (way_of r) bytes p.top l) → OfBeside (schematic_path p.outputs) old.file p.outputs l r a done → IsOutcome (Some p) old.file a done
+    → ReadAs mid new p.layout (λ bytes. IsRunLayout bytes p.top r l) → OfBeside (schematic_path p.outputs) old.file p.outputs l r a done → IsOutcome (Some p) old.file a done
 comes_beside p old mid new r l a done apart reads quiet rules layout beside =
     on_layout p old mid new r apart reads quiet rules a done (layout_read (mid.file p.layout) old.file r p a done layout.bytes layout.got.told (SoundStream l layout.is beside))
 
@@ -235,7 +233,7 @@ outcome_so : (p : Paths) (file : List ℕ → Told) (a : Answer) (done : Done) �
 outcome_so p file a done reads h = subst (λ (f : List ℕ → Told). IsOutcome (Some p) f a done) (sym (told_files p.outputs file reads)) h
 
 pub outcome_made : (p : Paths) (old mid new : Store) (r : Rules) (l : Layout) (a : Answer) (done : Done) → p.shared ≡ None → ReadsFiles p.outputs → Quiet old mid → ReadAs old mid p.rules (λ bytes. Means bytes r)
-    → ReadAs mid new p.layout (λ bytes. IsReadIn (way_of r) bytes p.top l) → IsDone p.outputs l r a done → IsOutcome (Some p) (inputs_of p.outputs old.file) a done
+    → ReadAs mid new p.layout (λ bytes. IsRunLayout bytes p.top r l) → IsDone p.outputs l r a done → IsOutcome (Some p) (inputs_of p.outputs old.file) a done
 outcome_made p old mid new r l a done apart reads quiet rules layout made =
     outcome_so p old.file a done reads (comes_beside p old mid new r l a done apart reads quiet rules layout (made_alone p.outputs old.file l r a done made))
 
@@ -291,7 +289,7 @@ refuses_run (ToChip n seed prefix) l r nl path a reads e h = absurd reads
 
 -- no shapes file of what was read has room for it
 module _ (p : Paths) (old mid new : Store) (r : Rules) (l : Layout) (apart : p.shared ≡ None) (reads : ReadsFiles p.outputs) (alone : schematic_path p.outputs ≡ None)
-    (quiet : Quiet old mid) (rules : ReadAs old mid p.rules (λ bytes. Means bytes r)) (layout : ReadAs mid new p.layout (λ bytes. IsReadIn (way_of r) bytes p.top l)) where
+    (quiet : Quiet old mid) (rules : ReadAs old mid p.rules (λ bytes. Means bytes r)) (layout : ReadAs mid new p.layout (λ bytes. IsRunLayout bytes p.top r l)) where
   far_stop : (name : List ℕ) → IsTooFar l r (RefusedWide name) → Stops (Some p) old new (RefusedWide name)
   far_stop name h = record {
     cause = ((apart, last_alone p.outputs p.layout old new reads alone (read_whole old new p.layout layout.bytes new.opened layout.got.opened (subst (IsInput layout.bytes) (quiet.starts.files p.layout) layout.got.told))), layout.got.absent ∙ rules.got.absent);
@@ -307,7 +305,7 @@ module _ (p : Paths) (old mid new : Store) (r : Rules) (l : Layout) (apart : p.s
 
 -- the rules and the layout were read, and the schematic comes next
 module _ (p : Paths) (old mid late new : Store) (r : Rules) (l : Layout) (path : List ℕ) (apart : p.shared ≡ None) (reads : ReadsFiles p.outputs) (beside : schematic_path p.outputs ≡ Some path)
-    (quiet : Quiet old mid) (later : Quiet mid late) (rules : ReadAs old mid p.rules (λ bytes. Means bytes r)) (layout : ReadAs mid late p.layout (λ bytes. IsReadIn (way_of r) bytes p.top l)) where
+    (quiet : Quiet old mid) (later : Quiet mid late) (rules : ReadAs old mid p.rules (λ bytes. Means bytes r)) (layout : ReadAs mid late p.layout (λ bytes. IsRunLayout bytes p.top r l)) where
   told_so : late.file path ≡ old.file path
   told_so = later.starts.files path ∙ quiet.starts.files path
 
@@ -342,7 +340,7 @@ module _ (p : Paths) (old mid late new : Store) (r : Rules) (l : Layout) (path :
   schematic_comes a h = absurd h
 
 pub schematic_stop : (p : Paths) (old mid late new : Store) (r : Rules) (l : Layout) (path : List ℕ) (a : Answer) → p.shared ≡ None → ReadsFiles p.outputs → schematic_path p.outputs ≡ Some path → Quiet old mid → Quiet mid late
-    → ReadAs old mid p.rules (λ bytes. Means bytes r) → ReadAs mid late p.layout (λ bytes. IsReadIn (way_of r) bytes p.top l) → RefusesComparison l r late new path a → Stops (Some p) old new a
+    → ReadAs old mid p.rules (λ bytes. Means bytes r) → ReadAs mid late p.layout (λ bytes. IsRunLayout bytes p.top r l) → RefusesComparison l r late new path a → Stops (Some p) old new a
 schematic_stop p old mid late new r l path a apart reads beside quiet later rules layout h = record {
   cause = schematic_cause p old mid late new r l path apart reads beside quiet later rules layout a h.why;
   faults = faults_since old late new a (layout.got.faults ∙ rules.got.faults) h.faults;
@@ -351,7 +349,7 @@ schematic_stop p old mid late new r l path a apart reads beside quiet later rule
 
 -- what is written of the comparison is the outcome
 pub outcome_beside : (p : Paths) (old mid late new : Store) (r : Rules) (l : Layout) (nl : Netlist) (path : List ℕ) (a : Answer) (done : Done) → p.shared ≡ None → ReadsFiles p.outputs → schematic_path p.outputs ≡ Some path
-    → Quiet old mid → Quiet mid late → ReadAs old mid p.rules (λ bytes. Means bytes r) → ReadAs mid late p.layout (λ bytes. IsReadIn (way_of r) bytes p.top l)
+    → Quiet old mid → Quiet mid late → ReadAs old mid p.rules (λ bytes. Means bytes r) → ReadAs mid late p.layout (λ bytes. IsRunLayout bytes p.top r l)
     → ReadAs late new path (λ bytes. SpiceMeans read_limit bytes nl) → IsDoneBeside p.outputs l r nl a done → IsOutcome (Some p) (inputs_of p.outputs old.file) a done
 outcome_beside p old mid late new r l nl path a done apart reads beside quiet later rules layout schematic made =
     outcome_so p old.file a done reads

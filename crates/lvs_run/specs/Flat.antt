@@ -4,7 +4,7 @@ use Rattle.lvs_outside.specs.Loops.{IsFile}
 use Rattle.lvs_outside.specs.Store.{Store, Told, Holds}
 use Rattle.lvs_outside.specs.Files.{File}
 use Rattle.gds_layout.specs.declared.layout.Layout.{Layout}
-use Rattle.gds_layout.specs.Layouts.{IsRead}
+use Rattle.run_layout.specs.RunLayout.{IsRunLayout}
 use Rattle.shapes_file.specs.Flat.{CoversFlat}
 use Rattle.rule_text.specs.Rules.{Rules}
 use Rattle.rule_text.specs.Reading.{Means}
@@ -17,7 +17,6 @@ use Rattle.rule_layers.specs.Meaning.{device_rules, wiring_of}
 use Rattle.lvs_run.specs.Words.{Outputs, Paths, ToNetlist, ForNetlist, ForShapes}
 use Rattle.lvs_run.specs.Answers.{Answer, Good, Bad, IsVerdict}
 use Rattle.flat_layout.specs.declared.cause.GateCause.{GateCause}
-use Rattle.rule_layers.specs.Meaning.{way_of}
 
 -- the list has a file of this path, and this is a fact of its text
 abbrev pub ListsAs : List File → List ℕ → (List ℕ → Type 0) → Type 0
@@ -35,14 +34,14 @@ abbrev pub OfStated : Option Paths → (Paths → Type 0) → Type 0
 OfStated None P = ⊥
 OfStated (Some p) P = P p
 
--- the rules' bytes mean rules, the layout's bytes are read as a layout, and this is a fact of both
+-- the rules' bytes mean rules, the layout's bytes are read as a layout, whose further layers show
+-- the rules' flat selections, and this is a fact of both
 pub record IsOfRead (rules stream : List ℕ) (top : Option (List ℕ)) (P : Layout → Rules → Type 0)
     : Type 0 where
   pub rule_set : Rules
   pub meant : Means rules rule_set
   pub layout : Layout
-  pub read : IsRead stream top layout
-  pub way : layout.design.way ≡ way_of rule_set
+  pub read : IsRunLayout stream top rule_set layout
   pub is : P layout rule_set
 
 -- the same of the told files, the rules' first; nothing is said where one isn't told

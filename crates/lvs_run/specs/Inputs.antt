@@ -91,18 +91,18 @@ NoRules old new path (RefusedRules fault) = ReadAs old new path
 NoRules old new path a = NotGot old new path a
 
 -- why the layout's file gave no layout
-abbrev pub NoLayout : Store → Store → List ℕ → Option (List ℕ) → Answer → Type 0
-NoLayout old new path top (RefusedLayout fault) = ReadAs old new path
-    (λ bytes. IsFirstLayoutFault bytes top fault)
-NoLayout old new path top a = NotGot old new path a
+abbrev pub NoLayout : Store → Store → List ℕ → Option (List ℕ) → Rules → Answer → Type 0
+NoLayout old new path top r (RefusedLayout fault) = ReadAs old new path
+    (λ bytes. IsFirstLayoutFault bytes top r fault)
+NoLayout old new path top r a = NotGot old new path a
 
 pub record RefusesRules (old new : Store) (path : List ℕ) (a : Answer) : Type 0 where
   pub why : NoRules old new path a
   pub faults : DepotFaults a old new
 
-pub record RefusesLayout (old new : Store) (path : List ℕ) (top : Option (List ℕ))
+pub record RefusesLayout (old new : Store) (path : List ℕ) (top : Option (List ℕ)) (r : Rules)
     (a : Answer) : Type 0 where
-  pub why : NoLayout old new path top a
+  pub why : NoLayout old new path top r a
   pub faults : DepotFaults a old new
 
 -- why the schematic's file gave no netlist

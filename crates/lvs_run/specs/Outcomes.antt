@@ -5,7 +5,7 @@ use Rattle.lvs_outside.specs.Loops.{limit}
 use Rattle.gds_layout.specs.declared.layout.Layout.{Layout}
 use Rattle.gds_layout.specs.declared.layout.LayoutFault.{LayoutFault}
 use Rattle.gds_layout.specs.declared.layout.LayoutFault.TheVariants as layout
-use Rattle.gds_layout.specs.Layouts.{IsRead, IsFaultOf}
+use Rattle.run_layout.specs.RunLayout.{IsRunFault, IsRunLayout}
 use Rattle.rule_text.specs.declared.fault.RuleFault.{RuleFault}
 use Rattle.rule_text.specs.Rules.{Rules}
 use Rattle.rule_text.specs.Reading.{Means, IsFirstFault}
@@ -31,7 +31,6 @@ use Rattle.lvs_run.specs.Answers.{made, Answer, Good, Bad, comparison_answer}
 use Rattle.lvs_run.specs.Answers.{RefusedWords, RefusedSame, RefusedAbsent, RefusedLong}
 use Rattle.lvs_run.specs.Answers.{RefusedRules, RefusedLayout, RefusedSchematic}
 use Rattle.lvs_run.specs.Answers.{RefusedWide, RefusedMergedLayout, RefusedMergedSchematic}
-use Rattle.rule_layers.specs.Meaning.{way_of}
 
 -- the words state a command of these paths, and no file that it writes is named twice
 pub record Runs (said : Option Paths) (p : Paths) : Type 0 where
@@ -52,19 +51,19 @@ pub record ReadsRules (said : Option Paths) (file : List ℕ → Told) (p : Path
   pub means : Means bytes r
 
 -- and the layout of its stream, from the cell that the words name or else the only one that none
--- refers to, is this one
+-- refers to, with the rules' selections, is this one
 pub record ReadsLayout (said : Option Paths) (file : List ℕ → Told) (p : Paths) (r : Rules)
     (l : Layout) : Type 0 where
   pub rules : ReadsRules said file p r
   pub bytes : List ℕ
   pub held : HasFile file p.layout bytes
-  pub read : IsRead bytes p.top l
-  pub way : l.design.way ≡ way_of r
+  pub read : IsRunLayout bytes p.top r l
 
--- the stream's first fault, or the first of its cells' names and references; no want of memory
-abbrev pub IsFirstLayoutFault : List ℕ → Option (List ℕ) → LayoutFault → Type 0
-IsFirstLayoutFault bytes top layout.NoMemory = ⊥
-IsFirstLayoutFault bytes top fault = IsFaultOf bytes top fault
+-- the stream's first fault, or the first of its cells' names and references, or that of the rules'
+-- selections; no want of memory
+abbrev pub IsFirstLayoutFault : List ℕ → Option (List ℕ) → Rules → LayoutFault → Type 0
+IsFirstLayoutFault bytes top r layout.NoMemory = ⊥
+IsFirstLayoutFault bytes top r fault = IsRunFault bytes top r fault
 
 -- what is written is the shapes file of the layout by the rules
 pub record IsDrawn (l : Layout) (r : Rules) (path : List ℕ) (done : Done) : Type 0 where
@@ -230,7 +229,8 @@ pub data IsOutcome (said : Option Paths) (file : List ℕ → Told) (a : Answer)
       → IsOutcome said file a done
   BadLayout : (p : Paths) (r : Rules) (bytes : List ℕ) (fault : LayoutFault)
       → ReadsRules said file p r → HasFile file p.layout bytes
-      → IsFirstLayoutFault bytes p.top fault → a ≡ RefusedLayout fault → IsOutcome said file a done
+      → IsFirstLayoutFault bytes p.top r fault → a ≡ RefusedLayout fault
+      → IsOutcome said file a done
   Made : (p : Paths) (r : Rules) (l : Layout) → ReadsLayout said file p r l
       → IsDone p.outputs l r a done → IsOutcome said file a done
   TooFar : (p : Paths) (r : Rules) (l : Layout) → ReadsLayout said file p r l

@@ -6,12 +6,11 @@ use Rattle.lvs_outside.specs.Summary.{SinkState}
 use Rattle.lvs_outside.specs.Loops.{limit}
 use Rattle.gds_layout.specs.declared.layout.LayoutFault.{LayoutFault}
 use Rattle.rule_text.specs.declared.fault.RuleFault.{RuleFault}
-use Rattle.gds_layout.specs.Layouts.{IsRead}
+use Rattle.run_layout.specs.RunLayout.{IsRunLayout}
 use Rattle.gds_layout.specs.declared.layout.Layout.{Layout}
 use Rattle.plain_netlist.specs.Netlist.{Netlist}
 use Rattle.rule_text.specs.Reading.{Means, IsFirstFault as IsFirstRuleFault}
 use Rattle.rule_text.specs.Rules.{Rules}
-use Rattle.rule_layers.specs.Meaning.{way_of}
 use Rattle.spice_rows.specs.Sizes.{read_limit}
 use Rattle.spice_text.specs.Means.{Means as SpiceMeans}
 use Rattle.spice_rows.specs.declared.fault.SpiceFault.{SpiceFault}
@@ -112,11 +111,15 @@ AreRulesRead (Some p) old new fault = (p.shared ≡ None)
     × OfInput p.outputs (IsReadWhole new.opened old p.rules)
     (λ n seed prefix. IsFirstRuleFault rules_text fault)
 
+abbrev pub IsChipFault : ℕ → ℕ → Option (List ℕ) → LayoutFault → Type 0
+IsChipFault n seed top fault = (r : Rules) × Means rules_text r
+    × IsFirstLayoutFault (layout_text n seed) top r fault
+
 abbrev pub IsLayoutRead : Option Paths → Store → Store → LayoutFault → Type 0
 IsLayoutRead None old new fault = ⊥
 IsLayoutRead (Some p) old new fault = (p.shared ≡ None)
     × OfInput p.outputs (IsReadWhole new.opened old p.layout)
-    (λ n seed prefix. IsFirstLayoutFault (layout_text n seed) p.top fault)
+    (λ n seed prefix. IsChipFault n seed p.top fault)
 
 abbrev pub IsSchematicRead : Option Paths → Store → Store → SpiceFault → Type 0
 IsSchematicRead None old new fault = ⊥
@@ -130,8 +133,7 @@ pub record IsWideChip (n seed : ℕ) (top : Option (List ℕ)) (a : Answer) : Ty
   pub rules : Rules
   pub means : Means rules_text rules
   pub layout : Layout
-  pub read : IsRead (layout_text n seed) top layout
-  pub way : layout.design.way ≡ way_of rules
+  pub read : IsRunLayout (layout_text n seed) top rules layout
   pub schematic : Netlist
   pub meant : SpiceMeans read_limit (schematic_text n seed) schematic
   pub wide : IsTooWide layout rules schematic a

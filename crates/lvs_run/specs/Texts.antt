@@ -2,6 +2,7 @@
 use Rattle.std.specs.Prelude.{◌≡◌, ◌<◌, ◌≤◌, ℕ, List, length, Option}
 use Rattle.lvs_outside.specs.Loops.{limit}
 use Rattle.rule_text.specs.Reading.{IsFirstFault as IsFirstRuleFault}
+use Rattle.rule_text.specs.Rules.{Rules}
 use Rattle.lvs_run.specs.Answers.{Answer, RefusedLong, RefusedRules, RefusedLayout}
 use Rattle.lvs_run.specs.Answers.{RefusedSchematic, NoMemory}
 use Rattle.lvs_run.specs.Outcomes.{IsFirstLayoutFault, IsFirstSchematicFault}
@@ -18,10 +19,10 @@ NoRulesIn path text (RefusedRules fault) = (length text ≤ limit) × IsFirstRul
 NoRulesIn path text a = NotTaken path text a
 
 -- or no layout
-abbrev pub NoLayoutIn : (path text : List ℕ) → Option (List ℕ) → Answer → Type 0
-NoLayoutIn path text top (RefusedLayout fault) = (length text ≤ limit)
-    × IsFirstLayoutFault text top fault
-NoLayoutIn path text top a = NotTaken path text a
+abbrev pub NoLayoutIn : (path text : List ℕ) → Option (List ℕ) → Rules → Answer → Type 0
+NoLayoutIn path text top r (RefusedLayout fault) = (length text ≤ limit)
+    × IsFirstLayoutFault text top r fault
+NoLayoutIn path text top r a = NotTaken path text a
 
 -- or no netlist
 abbrev pub NoSchematicIn : (path text : List ℕ) → Answer → Type 0

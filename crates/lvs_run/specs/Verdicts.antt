@@ -7,7 +7,6 @@ use Rattle.lvs_outside.specs.Files.{File}
 use Rattle.cell_graph.specs.Linked.{plain}
 use Rattle.deep_tables.specs.declared.gates.BadGate.{BadGate}
 use Rattle.gds_layout.specs.declared.layout.Layout.{Layout}
-use Rattle.gds_layout.specs.Layouts.{IsRead}
 use Rattle.match_laws.specs.Answer.{Answer as PairAnswer, IsDifference, Match}
 use Rattle.match_laws.specs.Circuits.{IsCorrespondence, Pair, Pairing}
 use Rattle.match_report.specs.Report.{answers_of}
@@ -109,19 +108,17 @@ pub record IsMatchOf (l : Layout) (r : Rules) (schematic : Netlist)
   pub is : MatchesFlat l.design r l.header.unit_pm report.netlist report.top report.bad schematic
       report.file.compared
 
--- so it is of what a comparison writes of a layout that was read
+-- so it is of what a comparison writes of a layout
 abbrev pub VerdictsLaw : Type 0
-VerdictsLaw = (bytes : List ℕ) (name : Option (List ℕ)) (l : Layout) (r : Rules)
-    (schematic : Netlist) (cells : ℕ) (spelled report : List ℕ) (counts : Counts) (a : Answer)
-    → IsRead bytes name l → IsReported l r schematic cells spelled report counts a
+VerdictsLaw = (l : Layout) (r : Rules) (schematic : Netlist) (cells : ℕ) (spelled report : List ℕ)
+    (counts : Counts) (a : Answer) → IsReported l r schematic cells spelled report counts a
     → HasVerdicts a l r schematic spelled report
 
 -- and after Good
 abbrev pub MatchLaw : Type 0
-MatchLaw = (bytes : List ℕ) (name : Option (List ℕ)) (l : Layout) (r : Rules)
-    (schematic : Netlist) (cells : ℕ) (spelled report : List ℕ) (counts : Counts) (a : Answer)
-    → IsRead bytes name l → IsReported l r schematic cells spelled report counts a → a ≡ Good
-    → IsMatchOf l r schematic spelled report
+MatchLaw = (l : Layout) (r : Rules) (schematic : Netlist) (cells : ℕ) (spelled report : List ℕ)
+    (counts : Counts) (a : Answer) → IsReported l r schematic cells spelled report counts a
+    → a ≡ Good → IsMatchOf l r schematic spelled report
 
 -- where it is told, the schematic's bytes mean a netlist with this fact
 abbrev pub WhereMeant : Told → (Netlist → Type 0) → Type 0

@@ -2,7 +2,6 @@
 
 ghost use Rattle.std.specs.Prelude.{◌≡◌, ◌≤◌, ◌++◌, ◌∷◌, [], length, Some, codes, string_bytes};
 ghost use Rattle.std.specs.Prelude.{IfOk, IfErr, OnOk};
-ghost use Rattle.gds_layout.specs.Layouts.{IsRead};
 ghost use Rattle.lvs_outside.specs.Files.{files_of};
 ghost use Rattle.lvs_outside.specs.Loops.{limit};
 ghost use Rattle.lvs_outside.specs.Store.{Store};
@@ -15,6 +14,7 @@ ghost use Rattle.net_model.specs.Rows.{plain_netlist};
 ghost use Rattle.plain_netlist.specs.Normal.{IsNormalNetlist};
 ghost use Rattle.plain_netlist.specs.Sound.{IsSoundNetlist};
 ghost use Rattle.rule_text.specs.Reading.{Means};
+ghost use Rattle.run_layout.specs.RunLayout.{IsRunFault, IsRunLayout};
 ghost use Rattle.rule_text.specs.Seen.{rules_seen};
 ghost use Rattle.rule_text.specs.Sound.{IsSound};
 ghost use Rattle.spice_rows.specs.Sizes.{read_limit};
@@ -28,8 +28,7 @@ use crate::readings::{layout_stop, rules_stop, schematic_stop};
 use crate::status::Refusal;
 use crate::words::ChipTask;
 use chip_maker::{Made, make};
-use flat_layout::Way;
-use gds_layout::{Layout, read_layout};
+use gds_layout::{Layout, LayoutFault, read_layout};
 use job_board::{Crew, Gate};
 use lvs_outside::{LIMIT, Written};
 use net_model::Netlist;
@@ -37,6 +36,7 @@ use net_names::Name;
 use report_file::read_alignable;
 use rule_layers::way_of;
 use rule_text::{RuleSet, read_rules};
+use run_layout::run_layout;
 use spice_text::read_spice;
 use std::alloc::{AllocError, Global};
 use std::sync::Wait;
@@ -114,22 +114,39 @@ fn top_name(alloc: Global) -> Result<Option<Name>, AllocError>
     Name::from_bytes(alloc, b"TOP")
 }
 
-fn layout_in(
+// The layout of a text, with the rules' selections.
+fn read_drawn<R: Threads + Wait + Sync, G: Gate + Sync>(
+    alloc: Global,
+    text: &[u8],
+    top: &Option<Name>,
+    rules: &RuleSet,
+    crew: &Crew<R, G>,
+) -> Result<Layout, LayoutFault>
+    requires { IsSound (rules_seen rules.now) }
+    ensures layout { IfOk result (IsRunLayout text.now top.now (rules_seen rules.now)) }
+    ensures fault { IfErr result (IsRunFault text.now top.now (rules_seen rules.now)) }
+{
+    let drawn = read_layout(alloc, text, top.as_ref())?;
+    run_layout(alloc, drawn.keeping(way_of(rules)), rules, crew)
+}
+
+fn layout_in<R: Threads + Wait + Sync, G: Gate + Sync>(
     alloc: Global,
     prefix: &String,
     text: &[u8],
     top: &Option<Name>,
-    way: Way,
+    rules: &RuleSet,
+    crew: &Crew<R, G>,
 ) -> Result<Layout, Stop>
-    ensures way { IfOk result (λ l. l.design.way ≡ way) }
+    requires { IsSound (rules_seen rules.now) }
     ensures short { OnOk result (length text.now ≤ limit) }
-    ensures found { IfOk result (IsRead text.now top.now) }
+    ensures found { IfOk result (IsRunLayout text.now top.now (rules_seen rules.now)) }
     ensures refused { IfErr result (λ why. NoLayoutIn (layout_at (string_bytes prefix.now))
-        text.now top.now (stopped why)) }
+        text.now top.now (rules_seen rules.now) (stopped why)) }
 {
     check_length(prefix, ".gds", text)?;
-    match read_layout(alloc, text, top.as_ref()) {
-        Ok(layout) => Ok(layout.keeping(way)),
+    match read_drawn(alloc, text, top, rules, crew) {
+        Ok(layout) => Ok(layout),
         Err(fault) => Err(layout_stop(fault)),
     }
 }
@@ -176,11 +193,10 @@ pub fn chip_output<R: Threads + Wait + Sync, G: Gate + Sync>(
     let texts = texts_of(alloc, n, seed)?;
     let rules = rules_in(alloc, &prefix, texts.rules.as_slice())?;
     let top = top_name(alloc)?;
-    let way = way_of(&rules);
-    let layout = layout_in(alloc, &prefix, texts.layout.as_slice(), &top, way)?;
+    let crew = Crew::new(rt, workers, gate);
+    let layout = layout_in(alloc, &prefix, texts.layout.as_slice(), &top, &rules, &crew)?;
     let schematic = schematic_in(alloc, &prefix, texts.schematic.as_slice())?;
     let files = files_to_write(alloc, texts, &prefix)?;
-    let crew = Crew::new(rt, workers, gate);
     let output = made_output(alloc, &layout, &rules, &schematic, files, &crew)?;
     Ok(output)
 }

@@ -3,13 +3,13 @@
 ghost use Rattle.lvs_run.specs.Once.{ChipToldLaw, OneOutcomeLaw};
 ghost use Rattle.lvs_run.specs.Verdicts.{MatchLaw, VerdictsLaw};
 
-use gds_layout::one_layout;
 use netlist_file::{flat_netlist, one_netlist};
 use pair_jobs::verdicts;
 use report_file::{
     as_before, combined_alignable, exact_report, matched_report, matching, one_report,
     report_verdicts,
 };
+use run_layout::run_layouts;
 use shapes_file::one_file;
 use spice_text::written_laws;
 
@@ -19,7 +19,7 @@ pub fn one_outcome()
     ensures outcome { OneOutcomeLaw }
     ensures chip { ChipToldLaw }
 {
-    one_layout();
+    run_layouts();
     one_file();
     one_netlist();
     one_report();

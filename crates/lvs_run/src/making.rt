@@ -1,11 +1,11 @@
 //! What a command has to write of what it has read.
 
-ghost use Rattle.std.specs.Prelude.{◌≡◌, ◌≢◌, ◌<◌, ◌++◌, ◌∷◌, [], ℕ, List, Option};
+ghost use Rattle.std.specs.Prelude.{◌≡◌, ◌≢◌, ◌<◌, ◌++◌, ◌∷◌, [], ℕ, List};
 ghost use Rattle.std.specs.Prelude.{IfErr, IfOk, None, OnOk, Some, length, string_bytes};
 ghost use Rattle.cell_graph.specs.Linked.{cell_at};
 ghost use Rattle.cell_graph.specs.declared.cells.CellPart.{CellPart};
-ghost use Rattle.gds_layout.specs.Layouts.{IsRead};
 ghost use Rattle.gds_layout.specs.declared.layout.Layout.{Layout as Layouts};
+ghost use Rattle.layout_shapes.specs.Writable.{IsWritable};
 ghost use Rattle.lvs_outside.specs.Files.{AreApart, files_of};
 ghost use Rattle.lvs_run.specs.Inputs.{IsOutput, IsOutputBeside, IsStopFor, NotForRun, NotMerged};
 ghost use Rattle.lvs_run.specs.Inputs.{NotWide, stopped};
@@ -115,7 +115,6 @@ fn report_on<R: Threads + Wait + Sync, G: Gate + Sync>(
     schematic: &Netlist,
     crew: &Crew<R, G>,
 ) -> Result<Report, AllocError>
-    requires read { (bytes : List ℕ) × (top : Option (List ℕ)) × IsRead bytes top layout.now }
     requires rules { IsSound (rules_seen rules.now) }
     requires found { IsNetlistFile layout.now (rules_seen rules.now)
         (plain_netlist found.now.netlist) found.now.top found.now.bad.items found.now.text.items }
@@ -149,7 +148,6 @@ fn report_found<R: Threads + Wait + Sync, G: Gate + Sync>(
     schematic: &Netlist,
     crew: &Crew<R, G>,
 ) -> Result<Report, Stop>
-    requires read { (bytes : List ℕ) × (top : Option (List ℕ)) × IsRead bytes top layout.now }
     requires rules { IsSound (rules_seen rules.now) }
     requires found { IsNetlistFile layout.now (rules_seen rules.now)
         (plain_netlist found.now.netlist) found.now.top found.now.bad.items found.now.text.items }
@@ -189,7 +187,6 @@ fn compared_output<R: Threads + Wait + Sync, G: Gate + Sync>(
     paths: ReportPaths,
     crew: &Crew<R, G>,
 ) -> Result<Output, Stop>
-    requires read { (bytes : List ℕ) × (top : Option (List ℕ)) × IsRead bytes top layout.now }
     requires rules { IsSound (rules_seen rules.now) }
     requires found { HasFiles layout.now (rules_seen rules.now) found }
     requires schematic { IsAlignable (plain_netlist schematic.now) }
@@ -224,7 +221,6 @@ pub fn report_output<R: Threads + Wait + Sync, G: Gate + Sync>(
     paths: ReportPaths,
     crew: &Crew<R, G>,
 ) -> Result<Output, Stop>
-    requires read { (bytes : List ℕ) × (top : Option (List ℕ)) × IsRead bytes top layout.now }
     requires rules { IsSound (rules_seen rules.now) }
     requires files { AreFiles layout.now (rules_seen rules.now) files }
     requires schematic { IsAlignable (plain_netlist schematic.now) }
@@ -253,7 +249,6 @@ pub fn made_output<R: Threads + Wait + Sync, G: Gate + Sync>(
     files: Vec<Written>,
     crew: &Crew<R, G>,
 ) -> Result<Output, Stop>
-    requires read { (bytes : List ℕ) × (top : Option (List ℕ)) × IsRead bytes top layout.now }
     requires rules { IsSound (rules_seen rules.now) }
     requires schematic { IsAlignable (plain_netlist schematic.now) }
     ensures made { (n seed : ℕ) (prefix : List ℕ) → files_of files.items ≡ chip_files n seed prefix
@@ -303,7 +298,7 @@ pub fn output_of<R: Threads + Wait + Sync, G: Gate + Sync>(
     outputs: LayoutOutputs,
     crew: &Crew<R, G>,
 ) -> Result<Output, Stop>
-    requires read { (bytes : List ℕ) × (top : Option (List ℕ)) × IsRead bytes top layout.now }
+    requires layout { IsWritable layout.now }
     requires rules { IsSound (rules_seen rules.now) }
     requires apart { AreApart (blank_files (layout_outputs outputs)) }
     ensures made { IfOk result (IsOutput (layout_outputs outputs) layout.now

@@ -1,7 +1,7 @@
 //! The rules, the layout and the schematic of input files.
 
-ghost use Rattle.std.specs.Prelude.{◌≡◌, ℕ, List, Option, string_bytes, IfOk, IfErr};
-ghost use Rattle.gds_layout.specs.Layouts.{IsRead};
+ghost use Rattle.std.specs.Prelude.{◌≡◌, string_bytes, IfOk, IfErr};
+ghost use Rattle.layout_shapes.specs.Writable.{IsWritable};
 ghost use Rattle.lvs_outside.specs.Store.{HasRoom};
 ghost use Rattle.lvs_run.specs.Answers.{refused_layout, refused_rules, refused_schematic};
 ghost use Rattle.lvs_run.specs.Inputs.{Quiet, ReadAs, RefusesLayout, RefusesRules};
@@ -11,6 +11,7 @@ ghost use Rattle.netlist_file.specs.File.{AreFiles};
 ghost use Rattle.plain_netlist.specs.Normal.{IsNormalNetlist};
 ghost use Rattle.plain_netlist.specs.Sound.{IsSoundNetlist};
 ghost use Rattle.rule_text.specs.Reading.{Means};
+ghost use Rattle.run_layout.specs.RunLayout.{IsRunFault, IsRunLayout};
 ghost use Rattle.rule_text.specs.Seen.{rules_seen};
 ghost use Rattle.rule_text.specs.Sound.{IsSound};
 ghost use Rattle.spice_rows.specs.Sizes.{read_limit};
@@ -18,14 +19,15 @@ ghost use Rattle.spice_text.specs.Means.{Means as SpiceMeans, SaysFirst};
 
 use crate::input::{Stop, feed_input, read_input};
 use crate::status::Refusal;
-use flat_layout::Way;
 use gds_layout::{Layout, LayoutFault, LayoutReader};
 use job_board::{Crew, Gate};
 use lvs_outside::Depot;
 use net_model::Netlist;
 use net_names::Name;
 use netlist_file::{Files, extract_files};
+use rule_layers::way_of;
 use rule_text::{RuleFault, RuleSet, read_rules};
+use run_layout::run_layout;
 use spice_rows::SpiceFault;
 use spice_text::read_spice;
 use std::alloc::{AllocError, Global};
@@ -71,29 +73,46 @@ pub fn layout_stop(fault: LayoutFault) -> Stop
     }
 }
 
+// The layout of the bytes fed, with the rules' selections.
+fn finish_layout<R: Threads + Wait + Sync, G: Gate + Sync>(
+    alloc: Global,
+    reader: LayoutReader,
+    top: &Option<Name>,
+    rules: &RuleSet,
+    crew: &Crew<R, G>,
+) -> Result<Layout, LayoutFault>
+    requires { IsSound (rules_seen rules.now) }
+    ensures layout { IfOk result (IsRunLayout reader.fed top.now (rules_seen rules.now)) }
+    ensures fault { IfErr result (IsRunFault reader.fed top.now (rules_seen rules.now)) }
+{
+    let drawn = reader.finish(alloc, top.as_ref())?;
+    run_layout(alloc, drawn.keeping(way_of(rules)), rules, crew)
+}
+
 /// The layout of the path's file, from the cell of this name, or from the only one that none refers
-/// to; its cells keep squares in this way. The file is read in pieces, of which none is kept, to its
-/// end or past the limit before its fault is answered. An `Err` is as that of `rules_of`. Cost: the
-/// file's bytes, and linking its cells.
-pub fn layout_of<D: Depot>(
+/// to, with the rules' selections. The file is read in pieces, of which none is kept, to its end or
+/// past the limit before its fault is answered. An `Err` is as that of `rules_of`. Cost: the file's
+/// bytes, linking its cells, and what the selections take.
+pub fn layout_of<R: Threads + Wait + Sync, D: Depot, G: Gate + Sync>(
     alloc: Global,
     depot: &mut D,
     path: &String,
     top: &Option<Name>,
-    way: Way,
+    rules: &RuleSet,
+    crew: &Crew<R, G>,
 ) -> Result<Layout, Stop>
-    requires { HasRoom (D.state depot.old) }
-    ensures way { IfOk result (λ l. l.design.way ≡ way) }
+    requires room { HasRoom (D.state depot.old) }
+    requires rules { IsSound (rules_seen rules.now) }
     ensures quiet { Quiet (D.state depot.old) (D.state depot.new) }
     ensures found { IfOk result (λ l. ReadAs (D.state depot.old) (D.state depot.new)
-        (string_bytes path.now) (λ bytes. IsRead bytes top.now l)) }
+        (string_bytes path.now) (λ bytes. IsRunLayout bytes top.now (rules_seen rules.now) l)) }
     ensures refused { IfErr result (λ why. RefusesLayout (D.state depot.old) (D.state depot.new)
-        (string_bytes path.now) top.now (stopped why)) }
+        (string_bytes path.now) top.now (rules_seen rules.now) (stopped why)) }
 {
     let mut reader = LayoutReader::new(alloc);
     feed_input(alloc, depot, path, &mut reader)?;
-    match reader.finish(alloc, top.as_ref()) {
-        Ok(layout) => Ok(layout.keeping(way)),
+    match finish_layout(alloc, reader, top, rules, crew) {
+        Ok(layout) => Ok(layout),
         Err(fault) => Err(layout_stop(fault)),
     }
 }
@@ -135,7 +154,7 @@ fn read_beside<R: Threads + Wait + Sync, G: Gate + Sync>(
     rules: &RuleSet,
     crew: &Crew<R, G>,
 ) -> (Result<Netlist, SpiceFault>, Result<Files, AllocError>)
-    requires read { (stream : List ℕ) × (top : Option (List ℕ)) × IsRead stream top layout.now }
+    requires layout { IsWritable layout.now }
     requires rules { IsSound (rules_seen rules.now) }
     ensures found { IfOk result.0 (λ nl. SpiceMeans read_limit bytes.items (plain_netlist nl)) }
     ensures sound { IfOk result.0 (λ nl. IsSoundNetlist (plain_netlist nl)) }
@@ -144,8 +163,7 @@ fn read_beside<R: Threads + Wait + Sync, G: Gate + Sync>(
     ensures files { IfOk result.1 (AreFiles layout.now (rules_seen rules.now)) }
 {
     let extraction = move || -> Result<Files, AllocError>
-        requires { ((stream : List ℕ) × (top : Option (List ℕ)) × IsRead stream top layout.now)
-            × IsSound (rules_seen rules.now) }
+        requires { IsWritable layout.now × IsSound (rules_seen rules.now) }
         ensures { IfOk result (AreFiles layout.entry.now (rules_seen rules.entry.now)) }
     { extract_files(alloc, layout, rules, crew) };
     crew.both(|| read_spice(alloc, bytes.as_slice()), extraction)
@@ -163,7 +181,7 @@ pub fn schematic_beside<R: Threads + Wait + Sync, D: Depot, G: Gate + Sync>(
     crew: &Crew<R, G>,
 ) -> Result<(Netlist, Files), Stop>
     requires room { HasRoom (D.state depot.old) }
-    requires read { (bytes : List ℕ) × (top : Option (List ℕ)) × IsRead bytes top layout.now }
+    requires layout { IsWritable layout.now }
     requires rules { IsSound (rules_seen rules.now) }
     ensures quiet { Quiet (D.state depot.old) (D.state depot.new) }
     ensures found { IfOk result (λ v. ReadAs (D.state depot.old) (D.state depot.new)

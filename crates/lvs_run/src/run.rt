@@ -1,8 +1,8 @@
 //! The run of the program: words and inputs are read, files written, the line sent.
 
-ghost use Rattle.std.specs.Prelude.{◌≡◌, ◌≤◌, ℕ, List, Option, map, string_bytes, IfOk, IfErr};
+ghost use Rattle.std.specs.Prelude.{◌≡◌, ◌≤◌, ℕ, List, map, string_bytes, IfOk, IfErr};
 ghost use Rattle.std.specs.Prelude.{Some, None};
-ghost use Rattle.gds_layout.specs.Layouts.{IsRead};
+ghost use Rattle.layout_shapes.specs.Writable.{IsWritable};
 ghost use Rattle.lvs_outside.specs.Files.{AreApart, files_of};
 ghost use Rattle.lvs_outside.specs.Store.{HasRoom};
 ghost use Rattle.lvs_outside.specs.Summary.{SinkHasRoom};
@@ -32,8 +32,8 @@ use lvs_outside::{Depot, Sink, write_all, write_files};
 use lvs_words::WordFault;
 use netlist_file::flat_netlist;
 use report_file::read_alignable;
-use rule_layers::way_of;
 use rule_text::RuleSet;
+use run_layout::run_layouts;
 use shapes_file::covers_flat;
 use std::alloc::Global;
 use std::sync::Wait;
@@ -50,7 +50,7 @@ fn compare<R: Threads + Wait + Sync, D: Depot, G: Gate + Sync>(
     crew: &Crew<R, G>,
 ) -> Result<Output, Stop>
     requires depot { HasRoom (D.state depot.old) }
-    requires read { (bytes : List ℕ) × (top : Option (List ℕ)) × IsRead bytes top layout.now }
+    requires layout { IsWritable layout.now }
     requires rules { IsSound (rules_seen rules.now) }
     requires apart { (path : List ℕ) → AreApart (blank_files (report_outputs path paths)) }
     ensures quiet { Quiet (D.state depot.old) (D.state depot.new) }
@@ -85,6 +85,7 @@ fn prepare_task<R: Threads + Wait + Sync, D: Depot, G: Gate + Sync>(
     ensures stops { IfErr result (λ why. Stops (Some (paths_of task)) (D.state depot.old)
         (D.state depot.new) (stopped why)) }
 {
+    run_layouts();
     covers_flat();
     flat_netlist();
     compared_laws();
@@ -101,8 +102,8 @@ fn prepare_task<R: Threads + Wait + Sync, D: Depot, G: Gate + Sync>(
         None => {}
     }
     let rule_set = rules_of(alloc, depot, &rules)?;
-    let design = layout_of(alloc, depot, &layout, &top, way_of(&rule_set))?;
     let crew = Crew::new(rt, workers, gate);
+    let design = layout_of(alloc, depot, &layout, &top, &rule_set, &crew)?;
     match outputs {
         Outputs::Layout(outputs) => {
             let output = output_of(alloc, &design, &rule_set, outputs, &crew)?;

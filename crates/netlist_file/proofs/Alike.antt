@@ -1,8 +1,6 @@
--- One stream has one netlist.
-use Rattle.std.proofs.Common.{◌≡◌, ◌⊎◌, inl, inr, ℕ, zero, suc, ◌+◌, ◌-◌, ◌*◌, ◌^◌, ◌<◌, ◌≤◌, pos, Bool, true, List, [], ◌∷◌, ◌++◌, Option, Some, map, length, slice_get, refl, sym, ap, subst, ◌∙◌, arith}
+-- A layout has one netlist.
+use Rattle.std.proofs.Common.{◌≡◌, ◌⊎◌, inl, inr, ℕ, zero, suc, ◌+◌, ◌<◌, pos, Bool, true, List, [], ◌∷◌, ◌++◌, Some, map, length, slice_get, refl, sym, ap, subst, ◌∙◌, arith}
 use Rattle.base_laws.proofs.Items.{one_list}
-use Rattle.std.proofs.lemmas.Bool.{cases_lt}
-use Rattle.std.proofs.Math.Nat.{mul-le-mul_right}
 use Rattle.cell_graph.specs.Laws.{LevelLaw, OrderLaw}
 use Rattle.cell_graph.specs.Linked.{Linked, IsSound, height_at, plain}
 use Rattle.deep_flow.specs.Bad.{told_bad}
@@ -13,7 +11,6 @@ use Rattle.deep_tables.proofs.Circuiting.{circuit_along, drawn_along, one_order}
 use Rattle.deep_tables.proofs.Pinning.{AreAlike, alike_back, pins_alike}
 use Rattle.deep_tables.proofs.Together.{right_nets}
 use Rattle.cell_graph.proofs.Bridge.{heights}
-use Rattle.fixed_num.specs.Real.{IsNearest, whole}
 use Rattle.flat_laws.proofs.Cover.{reached_below}
 use Rattle.flat_laws.proofs.Planned.{cell_not_before, item_at}
 use Rattle.flat_layout.specs.Circuits.{AreCircuitCells, AreCircuitNets, AreCircuitPins, AreDrawn, CircuitParts, IsCallOf, IsCircuitOf, IsDrawnBelow, pin_nets}
@@ -28,13 +25,8 @@ use Rattle.flat_layout.specs.Layout.{Design, IsPlaced, IsReached}
 use Rattle.flat_layout.specs.Nets.{Tables}
 use Rattle.flat_layout.specs.Order.{AreLevels, IsCellBefore, IsOrder}
 use Rattle.flat_layout.specs.Pins.{CellPins, HasGate}
-use Rattle.gds_elements.specs.Data.{real_in, unit_in}
-use Rattle.gds_elements.specs.Meaning.{Library}
-use Rattle.gds_elements.specs.Once.{OneLibraryLaw}
-use Rattle.gds_elements.specs.Units.{IsUnit}
-use Rattle.gds_layout.specs.Layouts.{IsRead}
-use Rattle.gds_layout.specs.Once.{OneLayoutLaw}
 use Rattle.gds_layout.specs.declared.layout.Layout.{Layout}
+use Rattle.gds_layout.proofs.SamePlain.{same_plain}
 use Rattle.netlist_file.specs.File.{IsNetlistFile}
 use Rattle.netlist_file.specs.One.{IsSameNetlist, OneNetlistLaw, OneOrderLaw}
 use Rattle.plain_netlist.proofs.Listing.{apart_at, rising_apart}
@@ -43,35 +35,10 @@ use Rattle.plain_netlist.specs.Lists.{IsListed}
 use Rattle.plain_netlist.specs.Netlist.{CallRow, Circuit, Netlist}
 use Rattle.rule_layers.specs.Meaning.{device_rules, wiring_of}
 use Rattle.rule_text.specs.Rules.{Rules}
-use Rattle.shapes_file.proofs.OneFile.{same_plain}
 use Rattle.netlist_file.specs.Once.{OneTextLaw}
 use Rattle.spice_text.specs.Written.{IsWritten}
 use Rattle.table_laws.proofs.Circuited.{one_circuit}
 use Rattle.table_laws.proofs.Drawing.{one_drawn}
-
--- ---- the database unit
-
--- a value has one nearest whole number
-not_below : (s w j k : ℕ) → j < k → 2 * w < (2 * j + 1) * s → (2 * k - 1) * s ≤ 2 * w → ⊥
-not_below s w j k lt high low =
-    let less : 2 * j + 1 ≤ 2 * k - 1 = omega (arith, lt) in
-    let wide = mul-le-mul_right s less in
-    omega (arith, wide, high, low)
-
-one_nearest : (w j k : ℕ) → IsNearest w j → IsNearest w k → j ≡ k
-one_nearest w j k a b = by (cases_lt j k) (cases_lt k j)
-  where
-    by : (j < k) ⊎ (k ≤ j) → (k < j) ⊎ (j ≤ k) → j ≡ k
-    by (inl lt) q = absurd (not_below (16 ^ 78) (w * 10 ^ 12) j k lt (let h = a.high in omega (arith, h)) (let h = b.low in omega (arith, h)))
-    by (inr le) (inl lt) = absurd (not_below (16 ^ 78) (w * 10 ^ 12) k j lt (let h = b.high in omega (arith, h)) (let h = a.low in omega (arith, h)))
-    by (inr le) (inr ge) = omega (arith, le, ge)
-
--- bytes give one database unit
-one_unit : OneLibraryLaw → (bytes : List ℕ) (name : Option (List ℕ)) (l m : Layout) → IsRead bytes name l → IsRead bytes name m → l.header.unit_pm ≡ m.header.unit_pm
-one_unit libraries bytes name l m x y =
-    let same = libraries bytes x.library y.library x.accepted y.accepted in
-    let here : IsUnit (unit_in y.library.units) l.header.unit_pm = subst (λ (v : Library). IsUnit (unit_in v.units) l.header.unit_pm) same x.layout.header.unit in
-    one_nearest (whole (real_in (unit_in y.library.units))) l.header.unit_pm m.header.unit_pm here.nearest y.layout.header.unit.nearest
 
 -- ---- the design's order
 
@@ -273,12 +240,12 @@ module _ (r : Rules) (l m : Layout) (same : plain l.design ≡ plain m.design) (
     text = texts other text its_text (subst (λ (n : Netlist). IsWritten n text) netlist a.written) b.written;
   }
 
-pub one_netlist : OneLayoutLaw → OneLibraryLaw → LevelLaw → OrderLaw → OneTextLaw → OneNetlistLaw
-one_netlist layouts libraries levels orders texts bytes name l m r one other top its_top bad its_bad text its_text x y way a b =
-    let s = layouts bytes name l m x y in
-    same_file r l m (same_plain l.design m.design s.cells s.top way) (one_unit libraries bytes name l m x y) levels orders texts one other top its_top bad its_bad text its_text a b
+pub one_netlist : LevelLaw → OrderLaw → OneTextLaw → OneNetlistLaw
+one_netlist levels orders texts l m r one other top its_top bad its_bad text its_text alike a b =
+    let s = alike.same in
+    same_file r l m (same_plain l.design m.design s.cells s.top alike.way) s.header.unit levels orders texts one other top its_top bad its_bad text its_text a b
 
-pub ordered_once : OneLayoutLaw → OneLibraryLaw → LevelLaw → OrderLaw → OneTextLaw → OneOrderLaw
-ordered_once layouts libraries levels orders texts bytes name l m r one other top its_top bad its_bad text its_text x y way a b =
-    let s = layouts bytes name l m x y in
-    order r l m (same_plain l.design m.design s.cells s.top way) (one_unit libraries bytes name l m x y) levels orders texts one other top its_top bad its_bad text its_text a b
+pub ordered_once : LevelLaw → OrderLaw → OneTextLaw → OneOrderLaw
+ordered_once levels orders texts l m r one other top its_top bad its_bad text its_text alike a b =
+    let s = alike.same in
+    order r l m (same_plain l.design m.design s.cells s.top alike.way) s.header.unit levels orders texts one other top its_top bad its_bad text its_text a b

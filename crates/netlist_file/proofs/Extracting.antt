@@ -18,7 +18,7 @@ use Rattle.spice_text.specs.Laws.{OneMeaningLaw}
 use Rattle.table_laws.specs.BadLaws.{BadListedLaw}
 
 pub shows_flat : ExtractedMeansLaw → OneMeaningLaw → FlatCorrespondsLaw → FlatGatesLaw → SameGateLaw → BadListedLaw → OrderLaw → ShowsFlatLaw
-shows_flat text_means one corresponds gates_law same lists order bytes name l r nl top bad text read sound f =
+shows_flat text_means one corresponds gates_law same lists order l r nl top bad text sound f =
     let d = plain l.design in
     let w = wiring_of r in
     let t = tables_of r f.layers f.nets in

@@ -1,6 +1,6 @@
 -- What a netlist file shows of the flat layout: read as SPICE and expanded from its last circuit,
 -- it is the netlist of the flat layout.
-use Rattle.std.specs.Prelude.{◌≡◌, ◌↔◌, ℕ, suc, List, [], Option, None, Some, length, slice_get}
+use Rattle.std.specs.Prelude.{◌≡◌, ◌↔◌, ℕ, suc, List, [], None, Some, length, slice_get}
 use Rattle.cell_graph.specs.Linked.{plain}
 use Rattle.deep_flow.specs.Bad.{class_at}
 use Rattle.deep_tables.specs.declared.gates.BadGate.{BadGate}
@@ -12,7 +12,6 @@ use Rattle.flat_layout.specs.Layers.{InFlat}
 use Rattle.flat_layout.specs.Layout.{Design, Takes}
 use Rattle.flat_layout.specs.Nets.{Tables}
 use Rattle.flat_layout.specs.Regions.{Wiring}
-use Rattle.gds_layout.specs.Layouts.{IsRead}
 use Rattle.gds_layout.specs.declared.layout.Layout.{Layout}
 use Rattle.geo_base.specs.declared.shapes.Square.{Square}
 use Rattle.headline_laws.specs.FlatNetlist.{AreOneGate, flat_netlist, IsFlatGateOf}
@@ -83,8 +82,7 @@ pub record ShowsFlat (l : Layout) (r : Rules) (text : List ℕ) (nl : Netlist) (
   pub all_bad : AreAllBad (plain l.design) (wiring_of r) r bad
   pub no_bad : (bad ≡ []) ↔ HasNoBadGate (plain l.design) (wiring_of r) (device_rules r)
 
--- so it is of each layout that was read, for each sound rule set
+-- so it is of each layout, for each sound rule set
 abbrev pub ShowsFlatLaw : Type 0
-ShowsFlatLaw = (bytes : List ℕ) (name : Option (List ℕ)) (l : Layout) (r : Rules) (nl : Netlist)
-    (top : ℕ) (bad : List BadGate) (text : List ℕ) → IsRead bytes name l → IsSound r
-    → IsNetlistFile l r nl top bad text → ShowsFlat l r text nl top bad
+ShowsFlatLaw = (l : Layout) (r : Rules) (nl : Netlist) (top : ℕ) (bad : List BadGate)
+    (text : List ℕ) → IsSound r → IsNetlistFile l r nl top bad text → ShowsFlat l r text nl top bad

@@ -1,7 +1,7 @@
--- A stream and rules have one netlist file.
-use Rattle.std.specs.Prelude.{◌≡◌, ℕ, List, Option}
+-- A layout and rules have one netlist file.
+use Rattle.std.specs.Prelude.{◌≡◌, ℕ, List}
 use Rattle.deep_tables.specs.declared.gates.BadGate.{BadGate}
-use Rattle.gds_layout.specs.Layouts.{IsRead}
+use Rattle.gds_layout.specs.Once.{IsAlike}
 use Rattle.gds_layout.specs.declared.layout.Layout.{Layout}
 use Rattle.netlist_file.specs.File.{IsNetlistFile}
 use Rattle.plain_netlist.specs.Netlist.{Netlist}
@@ -15,18 +15,16 @@ pub record IsSameNetlist (one other : Netlist) (n its_n : ℕ) (told its_told : 
   pub bad : told ≡ its_told
   pub text : spelled ≡ its_spelled
 
--- whatever layouts the bytes were read as, whose cells keep squares in one way
+-- of alike layouts
 abbrev pub OneNetlistLaw : Type 0
-OneNetlistLaw = (bytes : List ℕ) (name : Option (List ℕ)) (l m : Layout) (r : Rules)
-    (one other : Netlist) (top its_top : ℕ) (bad its_bad : List BadGate) (text its_text : List ℕ)
-    → IsRead bytes name l → IsRead bytes name m → l.design.way ≡ m.design.way
+OneNetlistLaw = (l m : Layout) (r : Rules) (one other : Netlist) (top its_top : ℕ)
+    (bad its_bad : List BadGate) (text its_text : List ℕ) → IsAlike l m
     → IsNetlistFile l r one top bad text → IsNetlistFile m r other its_top its_bad its_text
     → IsSameNetlist one other top its_top bad its_bad text its_text
 
 -- and so are the cells that the top reaches, by height and then file order
 abbrev pub OneOrderLaw : Type 0
-OneOrderLaw = (bytes : List ℕ) (name : Option (List ℕ)) (l m : Layout) (r : Rules)
-    (one other : Netlist) (top its_top : ℕ) (bad its_bad : List BadGate) (text its_text : List ℕ)
-    → IsRead bytes name l → IsRead bytes name m → l.design.way ≡ m.design.way
+OneOrderLaw = (l m : Layout) (r : Rules) (one other : Netlist) (top its_top : ℕ)
+    (bad its_bad : List BadGate) (text its_text : List ℕ) → IsAlike l m
     → IsNetlistFile l r one top bad text → IsNetlistFile m r other its_top its_bad its_text
     → l.design.order ≡ m.design.order

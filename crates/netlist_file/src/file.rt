@@ -1,9 +1,9 @@
 //! A layout's shapes file, its netlist and the netlist's text.
 
-ghost use Rattle.std.specs.Prelude.{◌≡◌, ℕ, List, Option, IfOk};
+ghost use Rattle.std.specs.Prelude.{◌≡◌, IfOk};
 ghost use Rattle.cell_graph.specs.Linked.{plain};
 ghost use Rattle.deep_tables.specs.Layers.{AreLayers};
-ghost use Rattle.gds_layout.specs.Layouts.{IsRead};
+ghost use Rattle.layout_shapes.specs.Writable.{IsWritable};
 ghost use Rattle.net_model.specs.Rows.{plain_netlist};
 ghost use Rattle.netlist_file.specs.File.{AreFiles, HasNetlist, IsExtracted};
 ghost use Rattle.rule_text.specs.Seen.{rules_seen};
@@ -108,26 +108,25 @@ fn both_texts<R: Threads, G>(
     netlist: &Netlist,
     crew: &Crew<R, G>,
 ) -> (Result<Drawing, AllocError>, Result<Vec<u8>, AllocError>)
-    requires read { (bytes : List ℕ) × (top : Option (List ℕ)) × IsRead bytes top layout.now }
+    requires layout { IsWritable layout.now }
     requires rules { IsSound (rules_seen rules.now) }
     requires layers { AreLayers (plain layout.now.design) (rules_seen rules.now) layers.now }
     ensures drawing { IfOk result.0 (IsDrawing layout.now (rules_seen rules.now)) }
     ensures text { IfOk result.1 (λ text. IsWritten (plain_netlist netlist.now) text.items) }
 {
     let drawing = move || -> Result<Drawing, AllocError>
-        requires { ((bytes : List ℕ) × (top : Option (List ℕ)) × IsRead bytes top layout.now)
-            × IsSound (rules_seen rules.now)
+        requires { IsWritable layout.now × IsSound (rules_seen rules.now)
             × AreLayers (plain layout.now.design) (rules_seen rules.now) layers.now }
         ensures { IfOk result (IsDrawing layout.entry.now (rules_seen rules.entry.now)) }
     { shapes_of_layers(alloc, layout, rules, layers) };
     crew.both(drawing, || write_spice(alloc, netlist))
 }
 
-/// The netlist of a layout that was read. It has a circuit for the top and for each reached cell
-/// with a good gate in or below it; its text is SPICE, with sizes in micrometres. The bad gates are
-/// those of all reached cells, the cells in the design's order. Nothing is flattened: a cell is
-/// worked once, however often it is placed. The answer is the same for every number of workers, of
-/// which there are 1 to 64. An `Err` is want of memory, or 2^32 circuits or nets of a cell. Cost:
+/// The netlist of a layout. It has a circuit for the top and for each reached cell with a good gate
+/// in or below it; its text is SPICE, with sizes in micrometres. The bad gates are those of all
+/// reached cells, the cells in the design's order. Nothing is flattened: a cell is worked once,
+/// however often it is placed. The answer is the same for every number of workers, of which there
+/// are 1 to 64. An `Err` is want of memory, or 2^32 circuits or nets of a cell. Cost:
 /// the layers, nets, gates, pins and circuit of each cell, and the bytes written.
 pub fn extract_netlist<R: Threads + Wait + Sync, G: Gate + Sync>(
     alloc: Global,
@@ -143,17 +142,17 @@ pub fn extract_netlist<R: Threads + Wait + Sync, G: Gate + Sync>(
     Ok(file_of(cells, text))
 }
 
-/// The shapes file and the netlist of a layout that was read, as `extract_netlist` has it; or the
-/// first cell for which there is no shapes file. Two workers or more write both texts at once. An
-/// `Err` is want of memory, or 2^32 circuits or nets of a cell. Cost: that of `extract_netlist`,
-/// and the bytes written.
+/// The shapes file and the netlist of a layout for which a stream has room, as `extract_netlist`
+/// has it; or the first cell for which there is no shapes file. Two workers or more write both
+/// texts at once. An `Err` is want of memory, or 2^32 circuits or nets of a cell. Cost: that of
+/// `extract_netlist`, and the bytes written.
 pub fn extract_files<R: Threads + Wait + Sync, G: Gate + Sync>(
     alloc: Global,
     layout: &Layout,
     rules: &RuleSet,
     crew: &Crew<R, G>,
 ) -> Result<Files, AllocError>
-    requires read { (bytes : List ℕ) × (top : Option (List ℕ)) × IsRead bytes top layout.now }
+    requires layout { IsWritable layout.now }
     requires rules { IsSound (rules_seen rules.now) }
     ensures { IfOk result (AreFiles layout.now (rules_seen rules.now)) }
 {

@@ -1,4 +1,4 @@
-//! The netlist file of a layout that was read, beside its shapes file.
+//! The netlist file of a layout, beside its shapes file.
 #![tactic(auto)]
 
 mod file;

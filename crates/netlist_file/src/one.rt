@@ -1,20 +1,16 @@
-//! A stream and rules have one netlist file.
+//! A layout and rules have one netlist file.
 
 ghost use Rattle.netlist_file.specs.One.{OneNetlistLaw, OneOrderLaw};
 
 use crate::one_text;
 use cell_graph::design_laws;
-use gds_elements::one_meaning;
-use gds_layout::one_layout;
 
-/// The netlists of one stream by the same rules are the same, with the same top and bad gates, and
-/// so are their texts, byte for byte, and the order of the cells that the top reaches.
+/// The netlists of alike layouts by the same rules are the same, with the same top and bad gates,
+/// and so are their texts, byte for byte, and the order of the cells that the top reaches.
 pub fn one_netlist()
     ensures netlist { OneNetlistLaw }
     ensures order { OneOrderLaw }
 {
-    one_layout();
-    one_meaning();
     design_laws();
     one_text();
 }

@@ -13,7 +13,7 @@ mod reads;
 mod way;
 
 pub use margin::zone_margin;
-pub use reads::{mark_operands, read_names};
+pub use reads::{mark_operands, no_marks, read_names};
 pub use way::way_of;
 
 /// Conductors are read as their names; grounds are known globals; a device's terminals are

@@ -102,8 +102,8 @@ fn mark_further(marks: &mut Vec<bool>, further: &[MoreRule])
     }
 }
 
-// No marks, one for each of so many names.
-fn no_marks(alloc: Global, count: usize) -> Result<Vec<bool>, AllocError>
+/// No marks, one for each of so many names.
+pub fn no_marks(alloc: Global, count: usize) -> Result<Vec<bool>, AllocError>
     ensures count { IfOk result (λ v. length v.items ≡ count) }
     ensures none { IfOk result (λ v. (k : ℕ) → get_or v.items k false ≡ false) }
 {

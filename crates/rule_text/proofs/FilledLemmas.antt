@@ -3,7 +3,7 @@ use Rattle.std.proofs.Common.{◌≡◌, ℕ, zero, suc, ◌+◌, ◌-◌, ◌*�
 use Rattle.std.proofs.lemmas.Bool.{and_parts}
 use Rattle.std.specs.Prelude.{◌&&◌, nat_le, slice_get, unwrap_or}
 use Rattle.rule_lines.specs.Tokens.{Token, Word, Text, Mark, Arrow, Bad, is_digit}
-use Rattle.rule_text.specs.Rows.{Slot, Fresh, Name, Layer, Guesses, Size, Digits, Quoted, Exact, Operator, Key, Sign, Maps, is_name, is_string, number_from, number_of, guesses_of, size_of, fits_slot, fits, word_of, word_at}
+use Rattle.rule_text.specs.Rows.{Slot, Fresh, Name, Layer, Guesses, Size, Area, Bound, Digits, Quoted, Exact, Operator, Key, Sign, Maps, is_name, is_string, number_from, number_of, guesses_of, size_of, fits_slot, fits, word_of, word_at}
 use Rattle.rule_text.specs.Filled.{FillsSlot, AreFilled}
 
 name_filled : (w : List ℕ) → is_name w ≡ true → 0 < length w
@@ -61,6 +61,8 @@ slot_filled Exact (Mark b) e = absurd cc
 slot_filled Exact Arrow e = absurd cc
 slot_filled Exact Bad e = absurd cc
 slot_filled Layer t e = tt
+slot_filled Area t e = tt
+slot_filled Bound t e = tt
 slot_filled Digits t e = tt
 slot_filled Guesses (Word w) e = (limit_some (unwrap_or (guesses_of w) 0) e, limit_most w)
 slot_filled Guesses (Text w) e = absurd cc

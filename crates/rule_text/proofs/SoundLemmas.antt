@@ -1,6 +1,7 @@
 -- A statement that passes keeps the entries sound.
 use Rattle.std.proofs.Common.{◌≡◌, inl, inr, ℕ, zero, suc, ◌+◌, ◌<◌, ◌≤◌, List, [], ◌∷◌, ◌++◌, length, map, Bool, true, false, cond, Option, Some, None, refl, sym, ap, subst, ◌∙◌, arith}
-use Rattle.base_laws.proofs.Items.{push_cases, get_front}
+use Rattle.base_laws.proofs.Items.{push_cases, get_front, get_last, push_old}
+use Rattle.std.proofs.lemmas.Option.{slice_get_within}
 use Rattle.std.proofs.lemmas.Bool.{and_parts, or_parts}
 use Rattle.std.specs.Prelude.{◌||◌, not, nat_le, slice_get, if◌then◌else◌}
 use Rattle.std.specs.List.{All, list_any, list_all, position_or_len}
@@ -14,18 +15,19 @@ use Rattle.rule_text.specs.declared.rules.LayerForm.{LayerForm}
 use Rattle.rule_text.specs.declared.rules.LayerForm.TheVariants as form
 use Rattle.rule_text.specs.declared.rules.LayerRule.{LayerRule}
 use Rattle.rule_text.specs.declared.rules.Output.{Output}
+use Rattle.rule_text.specs.declared.rules.SelectRule.{SelectRule}
 use Rattle.rule_text.specs.declared.rules.MosRule.{MosRule}
 use Rattle.rule_text.specs.declared.rules.MoreRule.{MoreRule}
 use Rattle.rule_text.specs.declared.rules.MoreRule.TheVariants as more
-use Rattle.rule_text.specs.Rows.{is_string, Form, Input, Labels, Empty, Binary, Sized, Mos, More, Resistor, Diode, Statement, Define, Draw, Connect, Global, Extract, Further, Same, FlattenLayout, FlattenSchematic, FlattenUnmatched, SamePins, KeepCovered, Combine, MaxGuesses, Accepted}
-use Rattle.rule_text.specs.Rules.{Rules, no_rules, names_of, place_of, is_defined, is_text_rule, has_texts, is_labels, operands_of, uses_of, reach_of, is_far, is_twice, is_misplaced, statement_fault, numbered, mos_rule, further_rule, class_in, has_class, mos_classes, more_classes, named, drawn, extracting, going_on, paired, names_layout, names_schematic, flattening_layout, flattening_schematic, with_statement}
+use Rattle.rule_text.specs.Rows.{is_string, Form, Input, Labels, Empty, Binary, Sized, Mos, More, Resistor, Diode, Statement, Define, Choice, Choose, Draw, Connect, Global, Extract, Further, Same, FlattenLayout, FlattenSchematic, FlattenUnmatched, SamePins, KeepCovered, Combine, MaxGuesses, Accepted}
+use Rattle.rule_text.specs.Rules.{Rules, no_rules, names_of, place_of, is_defined, is_text_rule, has_texts, is_labels, operands_of, uses_of, reach_of, is_far, is_twice, is_misplaced, statement_fault, numbered, mos_rule, further_rule, class_in, has_class, mos_classes, more_classes, named, select_key, select_rule, choosing, drawn, extracting, going_on, paired, names_layout, names_schematic, flattening_layout, flattening_schematic, with_statement}
 use Rattle.geo_base.specs.Layers.{IsStreamKey, is_same_key}
 use Rattle.rule_text.specs.Filled.{IsFilled, IsFilledForm, IsString, class_of}
-use Rattle.rule_text.specs.Reaches.{MOST_REACH, reaches}
+use Rattle.rule_text.specs.Reaches.{MOST_REACH, reach_by, reaches}
 use Rattle.rule_text.specs.Reading.{is_connected, is_more_connected, first_loose, first_loose_more, lesser, loose_of}
-use Rattle.plain_netlist.specs.Lists.{AreApart}
-use Rattle.plain_netlist.proofs.Listing.{apart_at, at_apart}
-use Rattle.rule_text.specs.Sound.{Each, IsLayer, AreOperands, AreJoined, AreMosLayers, AreMoreLayers, IsFormed, IsSound}
+use Rattle.plain_netlist.specs.Lists.{AreApart, AreRising}
+use Rattle.plain_netlist.proofs.Listing.{apart_at, at_apart, rising_at, at_rising}
+use Rattle.rule_text.specs.Sound.{Each, IsLayer, AreOperands, IsReadable, IsSelectRule, IsNamedBefore, AreJoined, AreMosLayers, AreMoreLayers, IsFormed, IsSound}
 use Rattle.rule_text.proofs.ReachLemmas.{reaches_more}
 use Rattle.std.proofs.lemmas.List.Elements.{All-nil, All-push}
 
@@ -159,14 +161,34 @@ new_operands r (Binary op a b) n e g filled =
 near_most : (n : ℕ) → not (nat_le n MOST_REACH) ≡ false → n ≤ MOST_REACH
 near_most n e = grind (arith, e)
 
-defined_more : (r : Rules) (name : List ℕ) (f : Form) → is_defined name r ≡ false → list_all (λ w. is_defined w r) (operands_of f) ≡ true
-    → list_any (λ w. is_labels w r) (operands_of f) ≡ false → IsFilledForm f → is_far r (Define name f) ≡ false → IsFormed r → IsFormed (named r name (numbered r f))
-defined_more r name f fresh used plain filled near h =
-    let n : LayerRule = record { name = name; form = numbered r f } in
+select_kept : (names : List LayerRule) (n : LayerRule) (s : SelectRule) → IsSelectRule names s → IsSelectRule (names ++ n ∷ []) s
+select_kept names n s h = record {
+  rule = h.rule;
+  there = push_old names n h.rule s.name h.there;
+  own = h.own;
+  before = h.before;
+  layers = (layer_kept names n s.region h.layers.0, layer_kept names n s.other h.layers.1);
+}
+
+new_readable : (r : Rules) (f : Form) → IsFilledForm f → IsReadable (length r.names) (numbered r f)
+new_readable r (Input key) filled = inl filled
+new_readable r (Labels key) filled = tt
+new_readable r Empty filled = tt
+new_readable r (Binary op a b) filled = tt
+new_readable r (Sized a by) filled = tt
+
+-- a name more
+named_more : (r : Rules) (name : List ℕ) (f : LayerForm) → is_defined name r ≡ false → AreOperands (r.names ++ record { name = name; form = f } ∷ []) (length r.names) f
+    → IsReadable (length r.names) f → reach_by (reaches r.names) f ≤ MOST_REACH → IsFormed r → IsFormed (named r name f)
+named_more r name f fresh operands readable near h =
+    let n : LayerRule = record { name = name; form = f } in
     record {
       names = map_apart (bytes_eq name) (λ m. m.name) r.names n (same_bytes name) fresh h.names;
-      operands = each_more (λ k m. AreOperands (r.names ++ n ∷ []) k m.form) r.names n (λ k m e. operands_kept r.names n k m.form (h.operands k m e)) (new_operands r f n used plain filled);
-      near = subst (λ (l : List ℕ). All (λ m. m ≤ MOST_REACH) l) (sym (reaches_more r.names n)) (All-push (λ m. m ≤ MOST_REACH) (reaches r.names) (reach_of r f) h.near (near_most (reach_of r f) near));
+      operands = each_more (λ k m. AreOperands (r.names ++ n ∷ []) k m.form) r.names n (λ k m e. operands_kept r.names n k m.form (h.operands k m e)) operands;
+      near = subst (λ (l : List ℕ). All (λ m. m ≤ MOST_REACH) l) (sym (reaches_more r.names n)) (All-push (λ m. m ≤ MOST_REACH) (reaches r.names) (reach_by (reaches r.names) f) h.near near);
+      readable = each_more (λ k m. IsReadable k m.form) r.names n h.readable readable;
+      selects = λ k s e. select_kept r.names n s (h.selects k s e);
+      ascending = h.ascending;
       keys = h.keys;
       outputs = λ k o e. layer_kept r.names n o.layer (h.outputs k o e);
       written = h.written;
@@ -186,6 +208,66 @@ defined_more r name f fresh used plain filled near h =
       guesses = h.guesses;
     }
 
+defined_more : (r : Rules) (name : List ℕ) (f : Form) → is_defined name r ≡ false → list_all (λ w. is_defined w r) (operands_of f) ≡ true
+    → list_any (λ w. is_labels w r) (operands_of f) ≡ false → IsFilledForm f → is_far r (Define name f) ≡ false → IsFormed r → IsFormed (named r name (numbered r f))
+defined_more r name f fresh used plain filled near h =
+    named_more r name (numbered r f) fresh (new_operands r f (record { name = name; form = numbered r f }) used plain filled) (new_readable r f filled) (near_most (reach_of r f) near) h
+
+-- a selection more: its name's number is greater than those of all before
+ascending_more : (names : List LayerRule) (selects : List SelectRule) (s : SelectRule) → s.name ≡ length names → Each (λ k t. IsSelectRule names t) selects → AreRising IsNamedBefore selects
+    → AreRising IsNamedBefore (selects ++ s ∷ [])
+ascending_more names selects s last known up = at_rising IsNamedBefore (selects ++ s ∷ []) (λ j k u v lt e f. elim (push_cases selects s v k f) [
+  | inl old ↦ elim (push_cases selects s u j e) [
+    | inl also ↦ rising_at IsNamedBefore selects j k u v up lt also old
+    | inr (at, same) ↦ let in_ = slice_get_within selects k v old in absurd (omega (arith, at, in_, lt))
+  ]
+  | inr (at, same) ↦ elim (push_cases selects s u j e) [
+    | inl old ↦
+        let in_ = slice_get_within names u.name (known j u old).rule (known j u old).there in
+        let is : v.name ≡ length names = ap (λ (x : SelectRule). x.name) (sym same) ∙ last in
+        subst (λ (n : ℕ). u.name < n) (sym is) in_
+    | inr (first, too) ↦ absurd (omega (arith, at, first, lt))
+  ]
+])
+
+chosen_more : (r : Rules) (name : List ℕ) (c : Choice) → is_defined name r ≡ false → AllLayers r (c.region ∷ c.other ∷ []) → IsFormed r → IsFormed (choosing r name c)
+chosen_more r name c fresh ls h =
+    let key = select_key (length r.names) in
+    let n : LayerRule = record { name = name; form = form.Input key } in
+    let g = named_more r name (form.Input key) fresh tt (inr refl) (omega arith) h in
+    let s = select_rule r c in
+    record {
+      names = g.names;
+      operands = g.operands;
+      near = g.near;
+      readable = g.readable;
+      selects = each_more (λ k t. IsSelectRule (r.names ++ n ∷ []) t) r.selects s g.selects (record {
+        rule = n;
+        there = get_last r.names n;
+        own = refl;
+        before = (ls.0.below, ls.1.0.below);
+        layers = (layer_kept r.names n (place_of c.region r) ls.0, layer_kept r.names n (place_of c.other r) ls.1.0);
+      });
+      ascending = ascending_more r.names r.selects s refl h.selects h.ascending;
+      keys = g.keys;
+      outputs = g.outputs;
+      written = g.written;
+      connects = g.connects;
+      globals = g.globals;
+      classes = g.classes;
+      others = g.others;
+      apart = g.apart;
+      strings = g.strings;
+      more_strings = g.more_strings;
+      devices = g.devices;
+      more = g.more;
+      layouts = g.layouts;
+      schematics = g.schematics;
+      flat_layouts = g.flat_layouts;
+      flat_schematics = g.flat_schematics;
+      guesses = g.guesses;
+    }
+
 drawn_more : (r : Rules) (name : List ℕ) (key : LayerKey) → list_any (is_same_key key) (map (λ o. o.key) r.outputs) ≡ false → AllLayers r (name ∷ [])
     → IsStreamKey key → IsFormed r → IsFormed (drawn r name key)
 drawn_more r name key fresh ls stream h =
@@ -194,6 +276,9 @@ drawn_more r name key fresh ls stream h =
       names = h.names;
       operands = h.operands;
       near = h.near;
+      readable = h.readable;
+      selects = h.selects;
+      ascending = h.ascending;
       keys = map_apart (is_same_key key) (λ p. p.key) r.outputs o (same_key key) fresh h.keys;
       outputs = each_more (λ k p. IsLayer r.names p.layer) r.outputs o h.outputs ls.0;
       written = each_more (λ k p. IsStreamKey p.key) r.outputs o h.written stream;
@@ -218,6 +303,9 @@ connect_more r a b ls h = record {
   names = h.names;
   operands = h.operands;
   near = h.near;
+  readable = h.readable;
+  selects = h.selects;
+  ascending = h.ascending;
   keys = h.keys;
   outputs = h.outputs;
   written = h.written;
@@ -242,6 +330,9 @@ global_more r a net ls h = record {
   names = h.names;
   operands = h.operands;
   near = h.near;
+  readable = h.readable;
+  selects = h.selects;
+  ascending = h.ascending;
   keys = h.keys;
   outputs = h.outputs;
   written = h.written;
@@ -288,6 +379,9 @@ extract_more r m fresh filled ls h =
       names = h.names;
       operands = h.operands;
       near = h.near;
+      readable = h.readable;
+      selects = h.selects;
+      ascending = h.ascending;
       keys = h.keys;
       outputs = h.outputs;
       written = h.written;
@@ -328,6 +422,9 @@ further_more r m fresh filled ls h =
       names = h.names;
       operands = h.operands;
       near = h.near;
+      readable = h.readable;
+      selects = h.selects;
+      ascending = h.ascending;
       keys = h.keys;
       outputs = h.outputs;
       written = h.written;
@@ -354,6 +451,9 @@ same_more r a b fresh h =
       names = h.names;
       operands = h.operands;
       near = h.near;
+      readable = h.readable;
+      selects = h.selects;
+      ascending = h.ascending;
       keys = h.keys;
       outputs = h.outputs;
       written = h.written;
@@ -378,6 +478,9 @@ flat_layout_more r a fresh h = record {
   names = h.names;
   operands = h.operands;
   near = h.near;
+  readable = h.readable;
+  selects = h.selects;
+  ascending = h.ascending;
   keys = h.keys;
   outputs = h.outputs;
   written = h.written;
@@ -402,6 +505,9 @@ flat_schematic_more r b fresh h = record {
   names = h.names;
   operands = h.operands;
   near = h.near;
+  readable = h.readable;
+  selects = h.selects;
+  ascending = h.ascending;
   keys = h.keys;
   outputs = h.outputs;
   written = h.written;
@@ -426,6 +532,9 @@ unmatched_more r h = record {
   names = h.names;
   operands = h.operands;
   near = h.near;
+  readable = h.readable;
+  selects = h.selects;
+  ascending = h.ascending;
   keys = h.keys;
   outputs = h.outputs;
   written = h.written;
@@ -450,6 +559,9 @@ pins_more r h = record {
   names = h.names;
   operands = h.operands;
   near = h.near;
+  readable = h.readable;
+  selects = h.selects;
+  ascending = h.ascending;
   keys = h.keys;
   outputs = h.outputs;
   written = h.written;
@@ -474,6 +586,9 @@ covered_more r h = record {
   names = h.names;
   operands = h.operands;
   near = h.near;
+  readable = h.readable;
+  selects = h.selects;
+  ascending = h.ascending;
   keys = h.keys;
   outputs = h.outputs;
   written = h.written;
@@ -498,6 +613,9 @@ combine_more r h = record {
   names = h.names;
   operands = h.operands;
   near = h.near;
+  readable = h.readable;
+  selects = h.selects;
+  ascending = h.ascending;
   keys = h.keys;
   outputs = h.outputs;
   written = h.written;
@@ -522,6 +640,9 @@ guesses_more r n fits h = record {
   names = h.names;
   operands = h.operands;
   near = h.near;
+  readable = h.readable;
+  selects = h.selects;
+  ascending = h.ascending;
   keys = h.keys;
   outputs = h.outputs;
   written = h.written;
@@ -548,6 +669,7 @@ passes r line s e = tests (list_all (λ w. is_defined w r) (uses_of s)) (is_far 
 by_tests : (r : Rules) (s : Statement) → list_all (λ w. is_defined w r) (uses_of s) ≡ true → is_far r s ≡ false → is_twice r s ≡ false → is_misplaced r s ≡ false
     → IsFilled s → IsFormed r → IsFormed (with_statement r s)
 by_tests r (Define name f) used near fresh plain filled h = defined_more r name f fresh used plain filled.1 near h
+by_tests r (Choose name c) used near fresh plain filled h = chosen_more r name c fresh (all_layers r (c.region ∷ c.other ∷ []) used plain) h
 by_tests r (Draw name key) used near fresh plain filled h = drawn_more r name key fresh (all_layers r (name ∷ []) used plain) filled h
 by_tests r (Connect a b) used near fresh plain filled h =
     let d = and_parts (is_defined a r) (list_all (λ w. is_defined w r) (b ∷ [])) used in
@@ -577,6 +699,9 @@ none_formed = record {
   names = tt;
   operands = none_each _;
   near = All-nil _;
+  readable = none_each _;
+  selects = none_each _;
+  ascending = tt;
   keys = tt;
   outputs = none_each _;
   written = none_each _;

@@ -3,9 +3,10 @@ use Rattle.std.specs.Prelude.{◌≡◌, ℕ, ◌+◌, ◌<◌, ◌≤◌, unsig
 use Rattle.std.specs.Prelude.{unwrap_or}
 use Rattle.rule_lines.specs.Tokens.{Token}
 use Rattle.geo_base.specs.Layers.{IsStreamKey}
-use Rattle.rule_text.specs.Rows.{Slot, Fresh, Name, Quoted, Exact, Guesses, Size, Form, Sized}
-use Rattle.rule_text.specs.Rows.{Statement, Define, Draw, Global, Extract, Further, More, Resistor}
-use Rattle.rule_text.specs.Rows.{Diode, Same, FlattenLayout, FlattenSchematic, MaxGuesses}
+use Rattle.rule_text.specs.Rows.{Slot, Fresh, Name, Quoted, Exact, Guesses, Size, Form, Input}
+use Rattle.rule_text.specs.Rows.{Sized, Statement, Define, Choose, Draw, Global, Extract, Further}
+use Rattle.rule_text.specs.Rows.{More, Resistor, Diode, Same, FlattenLayout, FlattenSchematic}
+use Rattle.rule_text.specs.Rows.{MaxGuesses}
 use Rattle.rule_text.specs.Rows.{guesses_of, size_of, is_string, word_at}
 
 abbrev pub IsGuessLimit : ℕ → Type 0
@@ -38,13 +39,15 @@ class_of (Resistor class r c w ta tw) = class
 class_of (Diode class p n ta tc) = class
 
 abbrev pub IsFilledForm : Form → Type 0
+IsFilledForm (Input key) = IsStreamKey key
 IsFilledForm (Sized a by) = IsSize (unsigned_abs by)
 IsFilledForm _ = Unit {0}
 
--- what becomes a name has a byte, a class is a string; sizes, the limit of guesses and the layer
--- that is written lie in their ranges
+-- what becomes a name has a byte, a class is a string; sizes, the limit of guesses and the layers
+-- that are read and written lie in their ranges
 abbrev pub IsFilled : Statement → Type 0
 IsFilled (Define name form) = (0 < length name) × IsFilledForm form
+IsFilled (Choose name choice) = 0 < length name
 IsFilled (Draw name key) = IsStreamKey key
 IsFilled (Global a net) = 0 < length net
 IsFilled (Extract m) = IsString m.class

@@ -1,6 +1,7 @@
 pub mod Rows
 pub mod Filled
 pub mod Devices
+pub mod Choices
 pub mod Reaches
 pub mod Rules
 pub mod Reading

@@ -10,6 +10,7 @@ use Rattle.rule_lines.specs.Tokens.{Token, Word, Text, Mark, Arrow, is_small, is
 use Rattle.geo_base.specs.declared.layer.LayerKey.{LayerKey}
 use Rattle.geo_base.specs.declared.layer.Op.{Op}
 use Rattle.geo_base.specs.declared.layer.Op.TheVariants.{And, Or, Not, Xor}
+use Rattle.rule_text.specs.declared.rules.Ask.{Ask}
 
 -- what may stand at a place of a row
 pub data Slot : Type 0 where
@@ -18,6 +19,8 @@ pub data Slot : Type 0 where
   Layer : Slot
   Guesses : Slot
   Size : Slot
+  Area : Slot
+  Bound : Slot
   Digits : Slot
   Quoted : Slot
   Exact : Slot
@@ -48,10 +51,14 @@ number_from limit n [] = Some n
 number_from limit n (b ∷ bs) = if is_digit b
     && nat_le (n * 10 + (b - 0x30)) limit then number_from limit (n * 10 + (b - 0x30)) bs else None
 
+-- so many digits at most, and one at least
+abbrev pub spelled : ℕ → ℕ → List ℕ → Option ℕ
+spelled most limit w =
+    if nat_le 1 (length w) && nat_le (length w) most then number_from limit 0 w else None
+
 -- one to seven digits
 abbrev pub number_of : ℕ → List ℕ → Option ℕ
-number_of limit w =
-    if nat_le 1 (length w) && nat_le (length w) 7 then number_from limit 0 w else None
+number_of limit w = spelled 7 limit w
 
 abbrev pub layer_of : List ℕ → Option ℕ
 layer_of w = number_of 65535 w
@@ -62,6 +69,14 @@ guesses_of w = number_of 1000000 w
 -- one to five digits
 abbrev pub size_of : List ℕ → Option ℕ
 size_of w = if nat_le (length w) 5 then number_of 10000 w else None
+
+-- a number of squares: one to eighteen digits
+abbrev pub area_of : List ℕ → Option ℕ
+area_of w = spelled 18 999999999999999999 w
+
+-- an area or nil, which bounds nothing
+abbrev pub is_bound : List ℕ → Bool
+is_bound w = is_some (area_of w) || bytes_eq w (codes "nil")
 
 abbrev pub is_digits : List ℕ → Bool
 is_digits w = is_some (number_of 9999999 w)
@@ -87,6 +102,8 @@ fits_slot Name (Word w) = is_name w
 fits_slot Layer (Word w) = is_some (layer_of w)
 fits_slot Guesses (Word w) = nat_le 1 (unwrap_or (guesses_of w) 0)
 fits_slot Size (Word w) = nat_le 1 (unwrap_or (size_of w) 0)
+fits_slot Area (Word w) = is_some (area_of w)
+fits_slot Bound (Word w) = is_bound w
 fits_slot Digits (Word w) = is_digits w
 fits_slot Quoted (Text w) = is_string w
 fits_slot Exact (Text w) = is_string w && not (list_any is_wild w)
@@ -255,8 +272,17 @@ pub data More : Type 0 where
   Resistor : (class r c w ta tw : List ℕ) → More
   Diode : (class p n ta tc : List ℕ) → More
 
+-- regions of a name chosen by what is asked of them and another, or all others; an area is asked
+-- of the regions alone
+pub record Choice : Type 0 where
+  pub ask : Ask
+  pub others : Bool
+  pub region : List ℕ
+  pub other : List ℕ
+
 pub data Statement : Type 0 where
   Define : (name : List ℕ) (form : Form) → Statement
+  Choose : (name : List ℕ) (choice : Choice) → Statement
   Draw : (name : List ℕ) (key : LayerKey) → Statement
   Connect : (a b : List ℕ) → Statement
   Global : (a net : List ℕ) → Statement
@@ -293,6 +319,9 @@ layer_at n ts = unwrap_or (layer_of (word_at n ts)) 0
 
 abbrev pub size_at : ℕ → List Token → ℕ
 size_at n ts = unwrap_or (size_of (word_at n ts)) 0
+
+abbrev pub area_at : ℕ → List Token → Option ℕ
+area_at n ts = area_of (word_at n ts)
 
 -- the layer pair whose numbers stand at two places
 abbrev pub key_at : ℕ → ℕ → List Token → LayerKey

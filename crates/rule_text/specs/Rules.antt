@@ -13,6 +13,7 @@ use Rattle.rule_text.specs.declared.rules.LayerForm.{LayerForm}
 use Rattle.rule_text.specs.declared.rules.LayerForm.TheVariants as form
 use Rattle.rule_text.specs.declared.rules.LayerRule.{LayerRule}
 use Rattle.rule_text.specs.declared.rules.Output.{Output}
+use Rattle.rule_text.specs.declared.rules.SelectRule.{SelectRule}
 use Rattle.rule_text.specs.declared.rules.MosRule.{MosRule}
 use Rattle.rule_text.specs.declared.rules.MoreRule.{MoreRule}
 use Rattle.rule_text.specs.declared.rules.MoreRule.TheVariants as more
@@ -21,6 +22,7 @@ use Rattle.rule_text.specs.declared.fault.RuleFault.TheVariants.{UnknownStatemen
 use Rattle.rule_text.specs.declared.fault.RuleFault.TheVariants.{UnknownName, NameTwice}
 use Rattle.rule_text.specs.declared.fault.RuleFault.TheVariants.{NotConductor, TooManyLayers}
 use Rattle.rule_text.specs.Rows.{Form, Input, Labels, Empty, Binary, Sized, Mos, Statement, Define}
+use Rattle.rule_text.specs.Rows.{Choice, Choose}
 use Rattle.rule_text.specs.Rows.{Draw, Connect, Global, Extract, Further, More, Resistor, Diode, Same}
 use Rattle.rule_text.specs.Rows.{MaxGuesses, Accepted, EQUALS, DOT}
 use Rattle.rule_text.specs.Rows.{FlattenLayout, FlattenSchematic, FlattenUnmatched, SamePins}
@@ -30,10 +32,12 @@ use Rattle.rule_text.specs.Rows.{flattening_of, setting_of}
 use Rattle.rule_text.specs.Filled.{class_of}
 use Rattle.rule_text.specs.Reaches.{MOST_REACH, reach_by, reaches}
 use Rattle.rule_text.specs.Devices.{devices_of}
+use Rattle.rule_text.specs.Choices.{relation_line, measure_line}
 
 -- a rule set with plain lists
 pub record Rules : Type 0 where
   pub names : List LayerRule
+  pub selects : List SelectRule
   pub outputs : List Output
   pub connects : List (ℕ × ℕ)
   pub globals : List (ℕ × List ℕ)
@@ -51,6 +55,7 @@ pub record Rules : Type 0 where
 abbrev pub no_rules : Rules
 no_rules = record {
   names = [];
+  selects = [];
   outputs = [];
   connects = [];
   globals = [];
@@ -116,6 +121,7 @@ reach_of r f = reach_by (reaches r.names) (numbered r f)
 -- the names that a statement uses
 abbrev pub uses_of : Statement → List (List ℕ)
 uses_of (Define name form) = operands_of form
+uses_of (Choose name choice) = choice.region ∷ choice.other ∷ []
 uses_of (Draw name key) = name ∷ []
 uses_of (Connect a b) = a ∷ b ∷ []
 uses_of (Global a net) = a ∷ []
@@ -161,6 +167,7 @@ names_schematic r name = list_any (bytes_eq name) (map (λ p. folded_bytes p.1) 
 -- folded
 abbrev pub is_twice : Rules → Statement → Bool
 is_twice r (Define name form) = is_defined name r
+is_twice r (Choose name choice) = is_defined name r
 is_twice r (Draw name key) = list_any (is_same_key key) (map (λ o. o.key) r.outputs)
 is_twice r (Connect a b) = false
 is_twice r (Global a net) = false
@@ -183,6 +190,7 @@ is_misplaced r s = list_any (λ w. is_labels w r) (uses_of s)
 
 abbrev pub is_definition : Statement → Bool
 is_definition (Define name form) = true
+is_definition (Choose name choice) = true
 is_definition _ = false
 
 -- a name would reach further than names may
@@ -204,11 +212,15 @@ abbrev pub or_else : Option Statement → Option Statement → Option Statement
 or_else None s = s
 or_else (Some s) t = Some s
 
+-- N = A.WORD(..), where the word asks for regions
+abbrev pub choice_of : List Token → Option Statement
+choice_of ts = or_else (relation_line ts) (measure_line ts)
+
 -- the statement of a line's tokens; no two rows fit one line
 abbrev pub statement_of : List Token → Option Statement
 statement_of ts =
     or_else (definition_of ts) (or_else (wiring_of ts) (or_else (devices_of ts)
-    (or_else (flattening_of ts) (setting_of ts))))
+    (or_else (flattening_of ts) (or_else (setting_of ts) (choice_of ts)))))
 
 abbrev pub is_output_next : List Token → Bool
 is_output_next (Word w ∷ ts) = bytes_eq w (codes "output")
@@ -253,6 +265,25 @@ further_rule r (Diode class p n ta tc) =
 abbrev pub named : Rules → List ℕ → LayerForm → Rules
 named r name form = record r { names = r.names ++ record { name = name; form = form } ∷ [] }
 
+-- the layer that the selection whose name has this number becomes: no stream has it
+abbrev pub select_key : ℕ → LayerKey
+select_key k = record { layer = 65536; datatype = k }
+
+abbrev pub select_rule : Rules → Choice → SelectRule
+select_rule r c = record {
+  name = length r.names;
+  ask = c.ask;
+  others = c.others;
+  region = place_of c.region r;
+  other = place_of c.other r;
+}
+
+-- the name of a selection is an input layer of its own
+abbrev pub choosing : Rules → List ℕ → Choice → Rules
+choosing r name c = record (named r name (form.Input (select_key (length r.names)))) {
+  selects = r.selects ++ select_rule r c ∷ [];
+}
+
 abbrev pub drawn : Rules → List ℕ → LayerKey → Rules
 drawn r name key =
     record r { outputs = r.outputs ++ record { layer = place_of name r; key = key } ∷ [] }
@@ -275,6 +306,7 @@ flattening_schematic r b = record r { flat_schematics = r.flat_schematics ++ b �
 -- the rules with a statement more
 abbrev pub with_statement : Rules → Statement → Rules
 with_statement r (Define name form) = named r name (numbered r form)
+with_statement r (Choose name choice) = choosing r name choice
 with_statement r (Draw name key) = drawn r name key
 with_statement r (Connect a b) =
     record r { connects = r.connects ++ (place_of a r, place_of b r) ∷ [] }

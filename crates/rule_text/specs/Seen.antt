@@ -2,12 +2,13 @@
 use Rattle.std.specs.Prelude.{ℕ, List, Option, Some, None, map}
 use denote.Ref.{Bor}
 use Rattle.rule_text.specs.Rows as rows
-use Rattle.rule_text.specs.Rows.{Slot, Form, Mos, More, Statement}
+use Rattle.rule_text.specs.Rows.{Slot, Form, Mos, More, Choice, Statement}
 use Rattle.rule_text.specs.Rules.{Rules}
 use Rattle.rule_text.specs.declared.slots.Slot.{Slot as Code}
 use Rattle.rule_text.specs.declared.slots.Slot.TheVariants as code
 use Rattle.rule_text.specs.declared.rows.Form.{Form as FoundForm}
 use Rattle.rule_text.specs.declared.rows.Form.TheVariants as found_form
+use Rattle.rule_text.specs.declared.rows.Choice.{Choice as FoundChoice}
 use Rattle.rule_text.specs.declared.rows.Mos.{Mos as FoundMos}
 use Rattle.rule_text.specs.declared.rows.More.{More as FoundMore}
 use Rattle.rule_text.specs.declared.rows.More.TheVariants as found_more
@@ -21,6 +22,8 @@ slot code.Name = rows.Name
 slot code.Layer = rows.Layer
 slot code.Guesses = rows.Guesses
 slot code.Size = rows.Size
+slot code.Area = rows.Area
+slot code.Bound = rows.Bound
 slot code.Digits = rows.Digits
 slot code.Quoted = rows.Quoted
 slot code.Exact = rows.Exact
@@ -46,6 +49,14 @@ form found_form.Empty = rows.Empty
 form (found_form.Binary op a b) = rows.Binary op a.now b.now
 form (found_form.Sized a by) = rows.Sized a.now by
 
+abbrev pub choice : FoundChoice → Choice
+choice c = record {
+  ask = c.ask;
+  others = c.others;
+  region = c.region.now;
+  other = c.other.now;
+}
+
 abbrev pub mos : FoundMos → Mos
 mos m = record {
   class = m.class.now;
@@ -65,6 +76,7 @@ more (found_more.Diode class p n ta tc) = rows.Diode class.now p.now n.now ta.no
 
 abbrev pub statement : Found → Statement
 statement (found.Define name f) = rows.Define name.now (form f)
+statement (found.Choose name c) = rows.Choose name.now (choice c)
 statement (found.Draw name key) = rows.Draw name.now key
 statement (found.Connect a b) = rows.Connect a.now b.now
 statement (found.Global a net) = rows.Global a.now net.now
@@ -87,6 +99,7 @@ statements (Some s) = Some (statement s)
 abbrev pub rules_seen : RuleSet → Rules
 rules_seen r = record {
   names = r.names.items;
+  selects = r.selects.items;
   outputs = r.outputs.items;
   connects = r.connects.items;
   globals = r.globals.items;

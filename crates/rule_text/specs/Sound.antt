@@ -1,20 +1,21 @@
 -- Sound rule sets: operands stand before their names, numbers are numbers of layers, nothing is
 -- there twice, and devices are connected.
-use Rattle.std.specs.Prelude.{◌≡◌, ℕ, ◌<◌, ◌≤◌, unsigned_abs, true, false, ◌&&◌, List, length, map}
-use Rattle.std.specs.Prelude.{slice_get, Some}
+use Rattle.std.specs.Prelude.{◌≡◌, ◌⊎◌, ℕ, ◌<◌, ◌≤◌, unsigned_abs, true, false, ◌&&◌, List, length}
+use Rattle.std.specs.Prelude.{map, slice_get, Some}
 use Rattle.std.specs.List.{All}
 use Rattle.net_names.specs.Folding.{folded_bytes}
 use Rattle.geo_base.specs.Layers.{IsStreamKey}
-use Rattle.plain_netlist.specs.Lists.{AreApart}
+use Rattle.plain_netlist.specs.Lists.{AreApart, AreRising}
 use Rattle.rule_text.specs.declared.rules.LayerForm.{LayerForm}
 use Rattle.rule_text.specs.declared.rules.LayerForm.TheVariants as form
 use Rattle.rule_text.specs.declared.rules.LayerRule.{LayerRule}
+use Rattle.rule_text.specs.declared.rules.SelectRule.{SelectRule}
 use Rattle.rule_text.specs.declared.rules.MosRule.{MosRule}
 use Rattle.rule_text.specs.declared.rules.MoreRule.{MoreRule}
 use Rattle.rule_text.specs.declared.rules.MoreRule.TheVariants as more
 use Rattle.rule_text.specs.Rows.{is_string}
 use Rattle.rule_text.specs.Rules.{Rules, names_of, has_texts, mos_classes, more_classes}
-use Rattle.rule_text.specs.Rules.{class_in}
+use Rattle.rule_text.specs.Rules.{class_in, select_key}
 use Rattle.rule_text.specs.Reading.{is_connected, is_more_connected}
 use Rattle.rule_text.specs.Filled.{IsGuessLimit, IsSize}
 use Rattle.rule_text.specs.Reaches.{MOST_REACH, reaches}
@@ -33,6 +34,23 @@ abbrev pub AreOperands : List LayerRule → ℕ → LayerForm → Type 0
 AreOperands names k (form.Binary op a b) = (a < k) × (b < k) × IsLayer names a × IsLayer names b
 AreOperands names k (form.Sized a by) = (a < k) × IsLayer names a × IsSize (unsigned_abs by)
 AreOperands names k _ = Unit {0}
+
+-- the layer that name k reads is one of a stream, or the name's own
+abbrev pub IsReadable : ℕ → LayerForm → Type 0
+IsReadable k (form.Input key) = IsStreamKey key ⊎ (key ≡ select_key k)
+IsReadable k _ = Unit {0}
+
+-- a selection's name is its own layer, and the layers that it reads stand before that
+pub record IsSelectRule (names : List LayerRule) (s : SelectRule) : Type 0 where
+  pub rule : LayerRule
+  pub there : slice_get names s.name ≡ Some rule
+  pub own : rule.form ≡ form.Input (select_key s.name)
+  pub before : (s.region < s.name) × (s.other < s.name)
+  pub layers : IsLayer names s.region × IsLayer names s.other
+
+-- the one's name stands before the other's
+abbrev pub IsNamedBefore : SelectRule → SelectRule → Type 0
+IsNamedBefore s t = s.name < t.name
 
 -- two names, of which one at most is a labels name
 pub record AreJoined (names : List LayerRule) (a b : ℕ) : Type 0 where
@@ -60,6 +78,9 @@ pub record IsFormed (r : Rules) : Type 0 where
   pub names : AreApart (names_of r)
   pub operands : Each (λ k n. AreOperands r.names k n.form) r.names
   pub near : All (λ n. n ≤ MOST_REACH) (reaches r.names)
+  pub readable : Each (λ k n. IsReadable k n.form) r.names
+  pub selects : Each (λ k s. IsSelectRule r.names s) r.selects
+  pub ascending : AreRising IsNamedBefore r.selects
   pub keys : AreApart (map (λ o. o.key) r.outputs)
   pub outputs : Each (λ k o. IsLayer r.names o.layer) r.outputs
   pub written : Each (λ k o. IsStreamKey o.key) r.outputs

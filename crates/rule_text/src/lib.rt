@@ -8,6 +8,7 @@ ghost use Rattle.rule_text.specs.Seen.{rules_seen};
 ghost use Rattle.rule_text.specs.Reader.{SaysFirst};
 ghost use Rattle.rule_text.specs.Sound.{IsSound};
 
+mod choices;
 mod devices;
 mod fault;
 mod reach;
@@ -21,7 +22,7 @@ pub use fault::RuleFault;
 pub use reach::reaches;
 use reader::Reader;
 use rule_lines::first_no_text;
-pub use rules::{LayerForm, LayerRule, MoreRule, MosRule, Output, RuleSet};
+pub use rules::{Ask, LayerForm, LayerRule, MoreRule, MosRule, Output, RuleSet, SelectRule};
 use std::alloc::Global;
 
 #[tactic(auto, using(crate::proofs::SoundLemmas::none_formed))]

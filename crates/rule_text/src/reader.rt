@@ -9,13 +9,14 @@ ghost use Rattle.rule_text.specs.Seen.{statements, more as more_seen};
 ghost use Rattle.rule_text.specs.Filled.{IsFilled, class_of};
 ghost use Rattle.rule_text.specs.Reading.{lesser, loose_of};
 
+use crate::choices::choice_of;
 use crate::devices::devices_of;
 use crate::fault::RuleFault;
 use crate::reach::reach_by;
 use crate::rows::{
-    Form, More, Mos, Statement, definition_of, flattening_of, setting_of, wiring_of,
+    Choice, Form, More, Mos, Statement, definition_of, flattening_of, setting_of, wiring_of,
 };
-use crate::rules::{LayerForm, LayerRule, MoreRule, MosRule, Output, RuleSet};
+use crate::rules::{LayerForm, LayerRule, MoreRule, MosRule, Output, RuleSet, SelectRule};
 use crate::slots::{is_name, is_statement_word};
 use crate::tables::{KeyTable, TextTable};
 use geo_base::LayerKey;
@@ -28,6 +29,9 @@ const MOST_REACH: u64 = 10_000;
 
 /// The most names that a rule file may define.
 const MOST_NAMES: usize = 256;
+
+/// The layer of selections, one beyond those of streams; its datatypes are their names' numbers.
+const SELECT_LAYER: u32 = 65_536;
 
 /// The rules so far; how far each name reaches; tables of what may stand once alone (classes and
 /// circuits with their letters folded); the lines of the devices.
@@ -65,6 +69,7 @@ impl<'a> Statement<'a> {
             Statement::Define(_, Form::Binary(_, a, b)) => Ok(vec![in alloc; *a, *b]?),
             Statement::Define(_, Form::Sized(a, _)) => Ok(vec![in alloc; *a]?),
             Statement::Define(_, _) => Ok(Vec::new(alloc)),
+            Statement::Choose(_, choice) => Ok(vec![in alloc; choice.region, choice.other]?),
             Statement::Draw(name, _) => Ok(vec![in alloc; *name]?),
             Statement::Connect(a, b) => Ok(vec![in alloc; *a, *b]?),
             Statement::Global(a, _) => Ok(vec![in alloc; *a]?),
@@ -97,7 +102,7 @@ impl<'a> Statement<'a> {
     fn is_definition(&self) -> bool
         ensures { result ≡ is_definition (statement_seen self.now) }
     {
-        matches!(self, Statement::Define(_, _))
+        matches!(self, Statement::Define(_, _) | Statement::Choose(_, _))
     }
 }
 
@@ -117,7 +122,10 @@ fn statement_of<'a>(tokens: &[Token<'a>]) -> Option<Statement<'a>>
     if let Some(found) = flattening_of(tokens) {
         return Some(found);
     }
-    setting_of(tokens)
+    if let Some(found) = setting_of(tokens) {
+        return Some(found);
+    }
+    choice_of(tokens)
 }
 
 fn goes_on(tokens: &[Token]) -> bool
@@ -181,12 +189,13 @@ impl Reader {
     ghost use Rattle.rule_text.specs.Reaches.{MOST_REACH, reach_by, reaches};
     ghost use Rattle.rule_text.specs.Rules.{uses_of, is_twice, is_misplaced, statement_fault};
     ghost use Rattle.rule_text.specs.Rules.{fault_of, numbered, named, drawn, extracting, paired};
+    ghost use Rattle.rule_text.specs.Rules.{choosing};
     ghost use Rattle.rule_text.specs.Rules.{names_layout, names_schematic, flattening_layout};
     ghost use Rattle.rule_text.specs.Rules.{flattening_schematic};
     ghost use Rattle.rule_text.specs.Rules.{with_statement, extraction_line, further_line};
     ghost use Rattle.rule_text.specs.Rules.{further_rule, going_on, has_class, more_classes};
     ghost use Rattle.rule_text.specs.Filled.{class_of};
-    ghost use Rattle.rule_text.specs.Seen.{more as more_seen};
+    ghost use Rattle.rule_text.specs.Seen.{more as more_seen, choice as choice_seen};
     ghost use Rattle.rule_text.specs.Reading.{reading, closed};
     ghost use Rattle.rule_text.specs.Seen.{words as words_seen, form as form_seen, mos as mos_seen};
     ghost use Rattle.rule_text.specs.Seen.{statement as statement_seen, rules_seen};
@@ -202,6 +211,7 @@ impl Reader {
     {
         let rules = RuleSet {
             names: Vec::new(alloc),
+            selects: Vec::new(alloc),
             outputs: Vec::new(alloc),
             connects: Vec::new(alloc),
             globals: Vec::new(alloc),
@@ -321,6 +331,7 @@ impl Reader {
     {
         match s {
             Statement::Define(name, _) => Ok(self.is_defined(name)),
+            Statement::Choose(name, _) => Ok(self.is_defined(name)),
             Statement::Draw(_, key) => Ok(self.keys.contains(*key)),
             Statement::Extract(m) => self.has_class(alloc, m.class),
             Statement::Further(m) => self.has_class(alloc, class_of(m)),
@@ -399,6 +410,36 @@ impl Reader {
             name: name_of(alloc, name)?,
             form,
         })?;
+        Ok(())
+    }
+
+    fn choose(&mut self, alloc: Global, name: &[u8], choice: &Choice) -> Result<(), AllocError>
+        requires ready { IsReady self.old }
+        requires filled { 0 < length name.now }
+        requires fresh { is_defined name.now (rules_seen self.old.rules) ≡ false }
+        requires room { length self.old.rules.names.items < 256 }
+        ensures rules { OnOk result (rules_seen self.new.rules
+            ≡ choosing (rules_seen self.old.rules) name.now (choice_seen choice.now)) }
+        ensures device_lines { OnOk result
+            (self.new.device_lines.items ≡ self.old.device_lines.items) }
+        ensures more_lines { OnOk result
+            (self.new.more_lines.items ≡ self.old.more_lines.items) }
+        ensures ready { OnOk result (IsReady self.new) }
+    {
+        let number = self.rules.names.len();
+        let rule = SelectRule {
+            name: number as u32,
+            ask: choice.ask,
+            others: choice.others,
+            region: self.place(choice.region),
+            other: self.place(choice.other),
+        };
+        let key = LayerKey {
+            layer: SELECT_LAYER,
+            datatype: number as u16,
+        };
+        self.define(alloc, name, LayerForm::Input(key))?;
+        self.rules.selects.push(rule)?;
         Ok(())
     }
 
@@ -598,6 +639,7 @@ impl Reader {
                 let form = self.numbered(form);
                 self.define(alloc, name, form)
             }
+            Statement::Choose(name, choice) => self.choose(alloc, name, choice),
             Statement::Draw(name, key) => self.draw(name, *key),
             Statement::Connect(a, b) => {
                 let pair = (self.place(a), self.place(b));

@@ -7,6 +7,7 @@ ghost use Rattle.rule_text.specs.Rows.{is_accepted, setting_of};
 ghost use Rattle.rule_text.specs.Seen.{statement, statements};
 ghost use Rattle.rule_text.specs.Filled.{IsFilled};
 
+use crate::rules::Ask;
 use crate::slots::Slot::{
     self, Exact, Fresh, Guesses, Key, Layer, Name, Operator, Quoted, Sign, Size,
 };
@@ -56,10 +57,20 @@ pub enum More<'a> {
     },
 }
 
+/// Regions of a name that are chosen by what is asked of them and another, or all others.
+#[derive(Clone, Copy)]
+pub struct Choice<'a> {
+    pub ask: Ask,
+    pub others: bool,
+    pub region: &'a [u8],
+    pub other: &'a [u8],
+}
+
 /// What a line states.
 #[derive(Clone, Copy)]
 pub enum Statement<'a> {
     Define(&'a [u8], Form<'a>),
+    Choose(&'a [u8], Choice<'a>),
     Draw(&'a [u8], LayerKey),
     Connect(&'a [u8], &'a [u8]),
     Global(&'a [u8], &'a [u8]),

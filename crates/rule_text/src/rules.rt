@@ -1,5 +1,5 @@
-//! The rules of a rule file: names, outputs, connections, devices, pairs of circuits and circuits
-//! without one.
+//! The rules of a rule file: names, selections, outputs, connections, devices, pairs of circuits
+//! and circuits without one.
 
 use geo_base::{LayerKey, Op};
 use net_names::Name;
@@ -21,6 +21,32 @@ pub enum LayerForm {
 pub struct LayerRule {
     pub name: Name,
     pub form: LayerForm,
+}
+
+/// What is asked of a region, and of another layer.
+#[derive(Clone, Copy, Debug, PartialEq, Eq)]
+pub enum Ask {
+    /// It touches the other layer, at a corner too, or shares squares with it.
+    Interacting,
+    /// It shares squares with it.
+    Overlapping,
+    /// All its squares are in it.
+    Inside,
+    /// None of its squares is in it.
+    Outside,
+    /// It has so many squares, from `low` on and below `high`; the other layer counts for nothing.
+    WithArea { low: u64, high: Option<u64> },
+}
+
+/// A name whose squares are the regions of another name of which something holds, or all its other
+/// regions: a layer of its own, which no stream has.
+#[derive(Clone, Copy, Debug, PartialEq, Eq)]
+pub struct SelectRule {
+    pub name: u32,
+    pub ask: Ask,
+    pub others: bool,
+    pub region: u32,
+    pub other: u32,
 }
 
 /// A layer that is written, and where.
@@ -68,6 +94,7 @@ pub enum MoreRule {
 /// The rules of a rule file, each list in the order of the file. Layers are numbers of names.
 pub struct RuleSet {
     pub names: Vec<LayerRule>,
+    pub selects: Vec<SelectRule>,
     pub outputs: Vec<Output>,
     pub connects: Vec<(u32, u32)>,
     pub globals: Vec<(u32, Name)>,
@@ -88,6 +115,7 @@ impl Drop for RuleSet {
     fn drop(self) {
         let RuleSet {
             names: _,
+            selects: _,
             outputs: _,
             connects: _,
             globals: _,

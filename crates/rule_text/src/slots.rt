@@ -6,7 +6,7 @@ ghost use Rattle.std.specs.Str.{bytes_eq};
 ghost use Rattle.geo_base.specs.Layers.{IsStreamKey};
 ghost use Rattle.rule_lines.specs.Seen.{seen, seen_all};
 ghost use Rattle.rule_text.specs.Rows.{is_name, is_statement_word, number_of, layer_of, guesses_of};
-ghost use Rattle.rule_text.specs.Rows.{size_of, size_at};
+ghost use Rattle.rule_text.specs.Rows.{size_of, size_at, spelled, area_of, is_bound, area_at};
 ghost use Rattle.rule_text.specs.Rows.{is_digits, is_printable, is_string, is_wild, is_operator};
 ghost use Rattle.rule_text.specs.Rows.{fits_slot, fits};
 ghost use Rattle.rule_text.specs.Rows.{word_at, sign_at, layer_at, key_at};
@@ -17,8 +17,8 @@ use geo_base::LayerKey;
 use rule_lines::{Token, is_digit, is_small};
 
 /// What may stand at a place of a row: a name that may be defined, a name, a layer number, a number
-/// of guesses, a size, digits, a string, a string that is no pattern, an operator, a given word or
-/// sign, or `=>`.
+/// of guesses, a size, an area, an area or nil, digits, a string, a string that is no pattern, an
+/// operator, a given word or sign, or `=>`.
 #[derive(Clone, Copy)]
 pub enum Slot<'a> {
     Fresh,
@@ -26,6 +26,8 @@ pub enum Slot<'a> {
     Layer,
     Guesses,
     Size,
+    Area,
+    Bound,
     Digits,
     Quoted,
     Exact,
@@ -85,26 +87,51 @@ pub fn is_statement_word(word: &[u8]) -> bool
     )
 }
 
-// The number that one to seven digits spell, where it is at most the limit.
-pub fn number_of(limit: u32, word: &[u8]) -> Option<u32>
-    requires { limit < 2 ^ 28 }
-    ensures is { result ≡ number_of limit word.now }
+// The number that so many digits at most spell, where it is at most the limit.
+fn spelled(most: usize, limit: u64, word: &[u8]) -> Option<u64>
+    requires { limit < 2 ^ 60 }
+    ensures is { result ≡ spelled most limit word.now }
     ensures within { IfSome result (λ n. n ≤ limit) }
 {
-    if word.is_empty() || word.len() > 7 {
+    if word.is_empty() || word.len() > most {
         return None;
     }
-    let mut n = 0u32;
+    let mut n = 0u64;
     for b in word {
         if !is_digit(*b) {
             return None;
         }
-        n = n * 10 + u32::from(*b - b'0');
+        n = n * 10 + u64::from(*b - b'0');
         if n > limit {
             return None;
         }
     }
     Some(n)
+}
+
+/// The number that one to seven digits spell, where it is at most the limit.
+pub fn number_of(limit: u32, word: &[u8]) -> Option<u32>
+    requires { limit < 2 ^ 28 }
+    ensures is { result ≡ number_of limit word.now }
+    ensures within { IfSome result (λ n. n ≤ limit) }
+{
+    match spelled(7, u64::from(limit), word) {
+        Some(n) => Some(n as u32),
+        None => None,
+    }
+}
+
+fn area_of(word: &[u8]) -> Option<u64>
+    ensures is { result ≡ area_of word.now }
+    ensures within { IfSome result (λ n. n ≤ 999999999999999999) }
+{
+    spelled(18, 999_999_999_999_999_999, word)
+}
+
+fn is_bound(word: &[u8]) -> bool
+    ensures { result ≡ is_bound word.now }
+{
+    area_of(word).is_some() || word == b"nil".as_slice()
 }
 
 fn layer_of(word: &[u8]) -> Option<u16>
@@ -178,6 +205,8 @@ fn fits_slot(slot: &Slot, token: &Token) -> bool
         (Slot::Layer, Token::Word(w)) => layer_of(w).is_some(),
         (Slot::Guesses, Token::Word(w)) => number_of(1_000_000, w).unwrap_or(0) >= 1,
         (Slot::Size, Token::Word(w)) => size_of(w).unwrap_or(0) >= 1,
+        (Slot::Area, Token::Word(w)) => area_of(w).is_some(),
+        (Slot::Bound, Token::Word(w)) => is_bound(w),
         (Slot::Digits, Token::Word(w)) => is_digits(w),
         (Slot::Quoted, Token::Text(w)) => is_string(w),
         (Slot::Exact, Token::Text(w)) => is_string(w) && !is_pattern(w),
@@ -241,6 +270,14 @@ pub fn size_at(tokens: &[Token], n: usize) -> u32
     ensures within { result ≤ 10000 }
 {
     size_of(word_at(tokens, n)).unwrap_or(0)
+}
+
+/// The number of squares at a place, if one stands there.
+pub fn area_at(tokens: &[Token], n: usize) -> Option<u64>
+    ensures is { result ≡ area_at n (seen_all tokens.now) }
+    ensures within { IfSome result (λ n. n ≤ 999999999999999999) }
+{
+    area_of(word_at(tokens, n))
 }
 
 pub fn key_at(tokens: &[Token], n: usize, m: usize) -> LayerKey

@@ -1,1 +1,3 @@
-pub mod Staging
+pub mod Choosing
+pub mod Layering
+pub mod Turning

@@ -1,2 +1,2 @@
-pub mod Further
+pub mod Sets
 pub mod Stages

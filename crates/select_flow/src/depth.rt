@@ -1,87 +1,90 @@
-//! The selections of one depth, as further layers of a design.
+//! A design with the selections of one depth as further layers.
 
-ghost use Rattle.std.specs.Prelude.{◌≡◌, ℕ, IfErr, IfOk, Some, slice_get};
+ghost use Rattle.std.specs.Prelude.{◌≡◌, IfErr, IfOk, length};
 ghost use Rattle.cell_graph.specs.Layering.{AreFurther, HaveNames};
-ghost use Rattle.cell_graph.specs.Linked.{plain};
-ghost use Rattle.deep_tables.specs.Zones.{AreZones};
+ghost use Rattle.cell_graph.specs.Linked.{IsSound as IsSoundDesign};
 ghost use Rattle.flat_layout.specs.declared.way.Way.TheVariants.{Disturbed};
-ghost use Rattle.gate_phase.specs.Indexes.{AreLayersOf};
-ghost use Rattle.plain_netlist.specs.Lists.{AreApart};
-ghost use Rattle.rule_layers.specs.Formulas.{formulas};
-ghost use Rattle.rule_stages.specs.Selections.{IsKnown};
 ghost use Rattle.rule_stages.specs.Stages.{AreSelectsOf, at_depth};
+ghost use Rattle.rule_text.specs.Rules.{select_key};
 ghost use Rattle.rule_text.specs.Seen.{rules_seen};
-ghost use Rattle.rule_text.specs.Sound.{IsSound};
-ghost use Rattle.select_flow.specs.Stages.{IsAsBefore, IsDepthFault, keys_of, stages_by};
-ghost use Rattle.select_laws.specs.Staged.{IsStaged};
-ghost use Rattle.staged_designs.specs.Depths.{AreFound};
+ghost use Rattle.rule_text.specs.Sound.{IsSelectRule, IsSound};
+ghost use Rattle.select_flow.specs.Stages.{AreUnused, IsDepthFault, stages_by};
+ghost use Rattle.staged_designs.specs.Depths.{AreFound, stage_keys};
+ghost use Rattle.staged_layouts.specs.Staged.{AreFresh, IsStagedDesign};
 
-use crate::further::{add_layers, no_layers};
-use cell_graph::{Design, LinkFault, OwnLayer};
-use deep_flow::{find_layers, find_zones};
-use deep_tables::Zones;
-use gate_phase::IndexedLayers;
+use crate::sets::depth_sets;
+use cell_graph::{Design, LinkFault, OwnLayer, design_laws};
+use further_layers::further_layers;
 use geo_base::LayerKey;
 use job_board::{Crew, Gate};
-use rule_stages::stage_rules;
-use rule_text::{RuleSet, SelectRule, select_key};
-use select_phase::find_selection;
+use rule_text::{LayerForm, LayerRule, RuleSet, SelectRule};
 use std::alloc::{AllocError, Global};
 use std::sync::Wait;
 use std::thread::Threads;
 
-// The names that some selections ask their regions for.
-fn other_names(alloc: Global, selected: &[SelectRule]) -> Result<Vec<u32>, AllocError> {
-    let mut names = Vec::new(alloc);
-    for select in selected {
-        names.push(select.other)?;
+// The layer that a selection becomes: its name's own.
+fn key_of(names: &[LayerRule], select: &SelectRule) -> LayerKey
+    requires { IsSelectRule names.now select.now }
+    ensures { result ≡ select_key select.now.name }
+{
+    match names.get(select.name as usize) {
+        Some(LayerRule { form: LayerForm::Input(key), .. }) => *key,
+        _ => LayerKey {
+            layer: 0,
+            datatype: 0,
+        },
     }
-    Ok(names)
 }
 
-/// The layers that selections become.
-fn keys_of(alloc: Global, selected: &[SelectRule]) -> Result<Vec<LayerKey>, AllocError>
-    ensures { IfOk result (λ v. v.items ≡ keys_of selected.now) }
+// The layers that selections become.
+fn keys_of(
+    alloc: Global,
+    rules: &RuleSet,
+    selected: &[SelectRule],
+) -> Result<Vec<LayerKey>, AllocError>
+    requires rules { IsSound (rules_seen rules.now) }
+    requires of { AreSelectsOf (rules_seen rules.now) selected.now }
+    ensures { IfOk result (λ v. v.items ≡ stage_keys (stages_by (rules_seen rules.now)
+        selected.now)) }
 {
     let mut keys = Vec::new(alloc);
     for select in selected {
-        keys.push(select_key(select.name))?;
+        let key = key_of(&rules.names, select);
+        keys.push(key)?;
     }
     Ok(keys)
 }
 
-// What each cell holds of some selections, a layer for each, over the tables of their rules.
-fn further_layers<'a>(
+// What each cell holds of the selections of a depth, a layer for each.
+fn depth_layers<R: Threads + Wait + Sync, G: Gate + Sync>(
     alloc: Global,
-    design: &'a Design,
-    stage: &'a RuleSet,
-    zones: &'a Zones,
-    layers: &'a IndexedLayers<'a>,
+    design: &Design,
+    rules: &RuleSet,
+    depth: usize,
     selected: &[SelectRule],
+    crew: &Crew<R, G>,
 ) -> Result<Vec<Vec<OwnLayer>>, AllocError>
-    requires rules { IsSound (rules_seen stage.now) }
+    requires rules { IsSound (rules_seen rules.now) }
+    requires selected { selected.now ≡ at_depth (rules_seen rules.now) depth }
+    requires of { AreSelectsOf (rules_seen rules.now) selected.now }
     requires way { design.now.way ≡ Disturbed }
-    requires zones { AreZones (plain design.now) (rules_seen stage.now) zones.now }
-    requires layers { AreLayersOf (plain design.now) (rules_seen stage.now) layers.now }
-    requires known { (k : ℕ) (s : SelectRule) → slice_get selected.now k ≡ Some s
-        → IsKnown (formulas stage.now.names.items) s }
-    requires apart { AreApart (keys_of selected.now) }
-    ensures further { IfOk result (λ v. AreFurther design.now.cells (keys_of selected.now)
-        v.items) }
+    requires unused { AreUnused design.now (stages_by (rules_seen rules.now) selected.now) }
+    ensures further { IfOk result (λ v. AreFurther design.now.cells
+        (stage_keys (stages_by (rules_seen rules.now) selected.now)) v.items) }
     ensures found { IfOk result (λ v. AreFound design.now
-        (stages_by (rules_seen stage.now) selected.now) v.items) }
+        (stages_by (rules_seen rules.now) selected.now) v.items) }
+    ensures fresh { IfOk result (λ v. AreFresh design.now
+        (stages_by (rules_seen rules.now) selected.now) v.items) }
 {
     design.sound();
-    let mut further = no_layers(alloc, design.cells())?;
-    for select in selected {
-        let found = find_selection(alloc, design, stage, zones, layers, select)?;
-        add_layers(alloc, &mut further, found, select_key(select.name))?;
-    }
-    Ok(further)
+    design_laws();
+    further_layers::laws();
+    let sets = depth_sets(alloc, design, rules, depth, selected, crew)?;
+    let keys = keys_of(alloc, rules, selected)?;
+    further_layers(alloc, &keys, &sets, design.cells())
 }
 
-/// The design with the selections of a depth as further layers; where there are none it is the
-/// design itself.
+/// The design with the selections of a depth as further layers.
 pub fn with_depth<R: Threads + Wait + Sync, G: Gate + Sync>(
     alloc: Global,
     design: Design,
@@ -95,20 +98,20 @@ pub fn with_depth<R: Threads + Wait + Sync, G: Gate + Sync>(
     requires of { AreSelectsOf (rules_seen rules.now) selected.now }
     requires way { design.way ≡ Disturbed }
     requires names { HaveNames design.cells }
-    ensures staged { IfOk result (λ e. IsStaged (plain design)
-        (stages_by (rules_seen rules.now) selected.now) (plain e)) }
-    ensures same { IfOk result (IsAsBefore design) }
+    requires unused { AreUnused design (stages_by (rules_seen rules.now) selected.now) }
+    ensures staged { IfOk result (IsStagedDesign (stages_by (rules_seen rules.now) selected.now)
+        design) }
     ensures fault { IfErr result (IsDepthFault (rules_seen rules.now) design selected.now) }
 {
+    design.sound();
     if selected.is_empty() {
         return Ok(design);
     }
-    let stage = stage_rules(alloc, rules, selected)?;
-    let zones = find_zones(alloc, &design, &stage, crew)?;
-    let layers = find_layers(alloc, &design, &stage, &zones, crew)?;
-    let others = other_names(alloc, selected)?;
-    let indexed = IndexedLayers::of_names(alloc, &design, &stage, &layers, &others)?;
-    let further = further_layers(alloc, &design, &stage, &zones, &indexed, selected)?;
-    let keys = keys_of(alloc, selected)?;
-    design.with_layers(alloc, &keys, further)
+    staged_layouts::stagings();
+    rule_stages::stages();
+    let further = depth_layers(alloc, &design, rules, depth, selected, crew)?;
+    let keys = keys_of(alloc, rules, selected)?;
+    let staged = design.with_layers(alloc, &keys, further)?;
+    staged.sound();
+    Ok(staged)
 }

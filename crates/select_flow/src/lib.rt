@@ -6,7 +6,7 @@
 #![tactic(auto)]
 
 mod depth;
-mod further;
+mod sets;
 mod stages;
 
 pub use stages::staged;

@@ -2,16 +2,15 @@
 
 ghost use Rattle.std.specs.Prelude.{◌≡◌, IfErr, IfOk};
 ghost use Rattle.cell_graph.specs.Layering.{HaveNames};
-ghost use Rattle.cell_graph.specs.Linked.{plain};
-ghost use Rattle.flat_layout.specs.declared.way.Way.TheVariants.{Disturbed};
 ghost use Rattle.rule_stages.specs.Stages.{stages_of};
 ghost use Rattle.rule_text.specs.Seen.{rules_seen};
 ghost use Rattle.rule_text.specs.Sound.{IsSound};
-ghost use Rattle.select_flow.specs.Stages.{IsAsBefore, IsStageFault};
-ghost use Rattle.select_laws.specs.Staged.{IsStaged};
+ghost use Rattle.select_flow.specs.Stages.{AreDrawn, IsStageFault};
+ghost use Rattle.staged_layouts.specs.Staged.{IsStagedDesign};
 
 use crate::depth::with_depth;
 use cell_graph::{Design, LinkFault};
+use flat_layout::Way;
 use job_board::{Crew, Gate};
 use rule_stages::{at_depth, deepest, depths};
 use rule_text::RuleSet;
@@ -31,23 +30,18 @@ pub fn staged<R: Threads + Wait + Sync, G: Gate + Sync>(
     crew: &Crew<R, G>,
 ) -> Result<Design, LinkFault>
     requires rules { IsSound (rules_seen rules.now) }
-    requires way { design.way ≡ Disturbed }
     requires names { HaveNames design.cells }
-    ensures staged { IfOk result (λ e. IsStaged (plain design) (stages_of (rules_seen rules.now))
-        (plain e)) }
-    ensures same { IfOk result (IsAsBefore design) }
+    requires drawn { AreDrawn design }
+    ensures staged { IfOk result (IsStagedDesign (stages_of (rules_seen rules.now)) design) }
     ensures fault { IfErr result (IsStageFault (rules_seen rules.now) design) }
 {
-    if rules.selects.is_empty() {
-        return Ok(design);
-    }
     let depths = depths(alloc, rules)?;
-    let mut staged = design;
-    let mut depth = 1;
-    while depth <= deepest(&depths) {
-        let selected = at_depth(alloc, rules, &depths, depth)?;
-        staged = with_depth(alloc, staged, rules, depth, &selected, crew)?;
-        depth += 1;
+    let last = deepest(&depths);
+    let way = design.way();
+    let mut staged = design.keeping(Way::Disturbed);
+    for depth in 0..last {
+        let selected = at_depth(alloc, rules, &depths, depth + 1)?;
+        staged = with_depth(alloc, staged, rules, depth + 1, &selected, crew)?;
     }
-    Ok(staged)
+    Ok(staged.keeping(way))
 }

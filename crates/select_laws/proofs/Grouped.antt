@@ -13,7 +13,7 @@ use Rattle.select_laws.specs.Whole.{IsWhole, IsWholeBelow}
 use Rattle.select_laws.proofs.Layered.{takes_down, name_same}
 use Rattle.select_laws.proofs.Staged.{region_same, close_same, selected_same}
 
-turned : (d e : Design) (key : LayerKey) → IsSameElse d e key → IsSameElse e d key
+pub turned : (d e : Design) (key : LayerKey) → IsSameElse d e key → IsSameElse e d key
 turned d e key same = record {
   top = sym same.top;
   places = λ cell k p. ((same.places cell k p).1, (same.places cell k p).0);

@@ -7,11 +7,9 @@ use Rattle.geo_base.specs.declared.shapes.Square.{Square}
 use Rattle.rect_sets.specs.Rects.{CanonicalLaw}
 use Rattle.poly_fill.specs.Outlines.{UprightLaw}
 use Rattle.flat_layout.specs.Layers.{InFlat}
-use Rattle.flat_layout.specs.Layout.{InFlatInput, IsReached}
+use Rattle.flat_layout.specs.Layout.{InFlatInput, IsHeight, IsReached}
 use Rattle.flat_laws.specs.LayerLaws.{CoverLaw, TopKeptLaw}
 use Rattle.cell_graph.specs.Linked.{Linked, plain, cell_at, height_at}
-use Rattle.cell_graph.specs.declared.drafts.CellDraft.{CellDraft}
-use Rattle.cell_graph.specs.Drafts.{IsLink}
 use Rattle.cell_graph.proofs.Bridge.{all_at}
 use Rattle.gds_elements.specs.Meaning.{Cell}
 use Rattle.gds_layout.specs.declared.layout.Layout.{Layout}
@@ -24,9 +22,7 @@ use Rattle.deep_tables.specs.declared.layers.CellLayers.{CellLayers}
 use Rattle.layout_shapes.specs.Writable.{PlacesLaw}
 use Rattle.layout_shapes.specs.Written.{AreReached, drawn, heading_of, name_of}
 use Rattle.shapes_file.specs.Flat.{CoversFlatLaw, formula_at}
-use Rattle.shapes_file.specs.Read.{WritableLaw}
 use Rattle.shapes_file.proofs.Lists.{position}
-use Rattle.shapes_file.proofs.Linked.{heights}
 use Rattle.shapes_file.proofs.Drawn.{design_drawn}
 use Rattle.shapes_file.proofs.Walked.{same_placements, walk_down, walk_up, written_at}
 use Rattle.shapes_file.proofs.Held.{held, line_down, own_is}
@@ -36,12 +32,11 @@ top_reached : (d : Linked) → IsReached (plain d) d.top
 top_reached d = record { path = []; leads = refl }
 
 -- the squares on an output line's layer, seen from the top, are the flat squares of its name
-line : CoverLaw → TopKeptLaw → PlacesLaw → LayerAtLaw → (d : Linked) (ds : List CellDraft) (top : Option (List ℕ)) (r : Rules) (table : List (Option CellLayers)) (ks : List ℕ) (k : ℕ) (o : Output) (q : Square) → IsLink ds top d → IsSound r
+line : CoverLaw → TopKeptLaw → PlacesLaw → LayerAtLaw → (d : Linked) (r : Rules) (table : List (Option CellLayers)) (ks : List ℕ) (k : ℕ) (o : Output) (q : Square) → IsHeight (plain d) (height_at d) → IsSound r
     → AreLayers (plain d) r table → AreReached d ks → slice_get r.outputs k ≡ Some o
     → InFlatInput (design_drawn d r table ks) (position ks d.top) o.key q ↔ InFlat (plain d) d.top (formula_at r o.layer) q
-line cover kept places at d ds top r table ks k o q link sound are reached here =
+line cover kept places at d r table ks k o q height sound are reached here =
     let x = formula_at r o.layer in
-    let height = heights ds top d link in
     let covered = cover (plain d) (height_at d) x height (λ cell s in_reach is_kept. (held at d r table cell k o sound are in_reach here).local.parted s is_kept) d.top q (top_reached d) in
     let whole = kept (plain d) (height_at d) x q height in
     let first = written_at d ks d.top reached (top_reached d) in (
@@ -76,11 +71,9 @@ texts l r table ks = All-from_recursion (λ (c : Cell). c.texts ≡ []) (map cel
     each [] = tt
     each (x ∷ xs) = (refl, each xs)
 
-pub covers_flat : CoverLaw → TopKeptLaw → PlacesLaw → LayerAtLaw → CanonicalLaw → UprightLaw → WritableLaw → CoversFlatLaw
-covers_flat cover kept places at canonical upright writable bytes top l r text cells rectangles read sound file =
+pub covers_flat : CoverLaw → TopKeptLaw → PlacesLaw → LayerAtLaw → CanonicalLaw → UprightLaw → CoversFlatLaw
+covers_flat cover kept places at canonical upright l r text cells rectangles fits sound file =
     let w = file.written in
-    let ds = read.layout.drafts in
-    let link = read.layout.linked in
     let design = design_drawn l.design r file.table w.cells in
     record {
       written = library_read (heading_of l.header) (map (drawn l r file.table) w.cells);
@@ -91,9 +84,9 @@ covers_flat cover kept places at canonical upright writable bytes top l r text c
       names = names l r file.table w.cells;
       texts = texts l r file.table w.cells;
       design = design;
-      hierarchy = hierarchy canonical at upright l r file.table w.cells ds top link (writable bytes top l read) sound file.layers w.reached;
+      hierarchy = hierarchy canonical at upright l r file.table w.cells fits sound file.layers w.reached;
       placements = λ i k n p at. same_placements places l.design r file.table w.cells i k n p w.reached at;
       held = λ i k there n o here q. own_is at l.design r file.table w.cells i k n o q sound file.layers w.reached there here;
-      lines = λ k o here q. line cover kept places at l.design ds top r file.table w.cells k o q link sound file.layers w.reached here;
+      lines = λ k o here q. line cover kept places at l.design r file.table w.cells k o q fits.heights sound file.layers w.reached here;
       others = λ key none q h. other places l.design r file.table w.cells key q w.reached none h;
     }

@@ -12,11 +12,9 @@ use Rattle.flat_layout.specs.Arrays.{place_at}
 use Rattle.flat_layout.specs.Layout as flat
 use Rattle.flat_layout.specs.Layout.{IsOwn, IsReached, Some_of}
 use Rattle.flat_laws.proofs.Cover.{reached_below}
-use Rattle.cell_graph.specs.Drafts.{IsLink}
 use Rattle.cell_graph.specs.Linked.{Linked, plain, cell_at, places_at, reference}
 use Rattle.cell_graph.specs.declared.cells.CellPart.{CellPart}
 use Rattle.cell_graph.specs.declared.cells.Place.{Place}
-use Rattle.cell_graph.specs.declared.drafts.CellDraft.{CellDraft}
 use Rattle.cell_graph.proofs.Bridge.{all_at, placed_of}
 use Rattle.gds_elements.specs.Meaning.{Cell, Ref, single}
 use Rattle.gds_layout.specs.Shapes.{shapes_cover}
@@ -28,11 +26,10 @@ use Rattle.rule_text.specs.Rules.{Rules}
 use Rattle.rule_text.specs.Sound.{IsSound}
 use Rattle.deep_tables.specs.Layers.{AreLayers, LayerAtLaw}
 use Rattle.deep_tables.specs.declared.layers.CellLayers.{CellLayers}
-use Rattle.layout_shapes.specs.Writable.{IsWritable}
+use Rattle.layout_shapes.specs.Writable.{FitsStream, HaveOwnNames, IsWritable}
 use Rattle.layout_shapes.specs.Written.{AreReached, drawn, heading_of, line_of, name_of, ref_of, squares_of}
 use Rattle.shapes_file.specs.Flat.{AreArrays, HasNoRepeat, IsHierarchyOf, IsNamed}
 use Rattle.shapes_file.proofs.Lists.{each_all, once_rising, position}
-use Rattle.shapes_file.proofs.Linked.{one_name, reached_in}
 use Rattle.shapes_file.proofs.Drawn.{array_drawn, cell_drawn, design_drawn}
 use Rattle.shapes_file.proofs.Walked.{reached_at, written_at}
 use Rattle.shapes_file.proofs.Held.{IsOn, held}
@@ -64,14 +61,12 @@ named_at l r table ks k are reached = record {
   named = refl;
 }
 
-once : (l : Layout) (r : Rules) (table : List (Option CellLayers)) (ks : List ℕ) (ds : List CellDraft) (top : Option (List ℕ)) → IsLink ds top l.design → AreReached l.design ks → HasNoRepeat (structures l r table ks)
-once l r table ks ds top link are name i j a b =
+once : (l : Layout) (r : Rules) (table : List (Option CellLayers)) (ks : List ℕ) → HaveOwnNames l.design → AreReached l.design ks → HasNoRepeat (structures l r table ks)
+once l r table ks names are name i j a b =
     let m = number_at l r table ks i a.cell a.there in
     let n = number_at l r table ks j b.cell b.there in
-    let in_m = reached_in ds top l.design m.0 link (reached_at l.design ks i m.0 are m.1) in
-    let in_n = reached_in ds top l.design n.0 link (reached_at l.design ks j n.0 are n.1) in
     let e : name_of (cell_at l.design m.0) ≡ name_of (cell_at l.design n.0) = ap (λ (c : Cell). c.name) m.2 ∙ a.named ∙ sym b.named ∙ sym (ap (λ (c : Cell). c.name) n.2) in
-    let same = one_name ds top l.design m.0 n.0 link in_m in_n e in
+    let same = names m.0 n.0 (reached_at l.design ks i m.0 are m.1) (reached_at l.design ks j n.0 are n.1) e in
     once_rising ks i j n.0 are.ascending (subst (λ (k : ℕ). slice_get ks i ≡ Some k) same m.1) n.1
 
 -- ---- references
@@ -132,14 +127,14 @@ own canonical law upright l r table ks i k key q sound are reached at =
 
 -- ---- the whole
 
-pub hierarchy : CanonicalLaw → LayerAtLaw → UprightLaw → (l : Layout) (r : Rules) (table : List (Option CellLayers)) (ks : List ℕ) (ds : List CellDraft) (top : Option (List ℕ)) → IsLink ds top l.design → IsWritable l → IsSound r
+pub hierarchy : CanonicalLaw → LayerAtLaw → UprightLaw → (l : Layout) (r : Rules) (table : List (Option CellLayers)) (ks : List ℕ) → FitsStream l → IsSound r
     → AreLayers (plain l.design) r table → AreReached l.design ks
     → IsHierarchyOf (library_read (heading_of l.header) (map (drawn l r table) ks)) (name_of (cell_at l.design l.design.top)) (design_drawn l.design r table ks)
-hierarchy canonical law upright l r table ks ds top link writable sound are reached =
+hierarchy canonical law upright l r table ks fits sound are reached =
     let d = l.design in
     let part : (i : ℕ) (k : ℕ) (f : flat.Cell) → slice_get ks i ≡ Some k → slice_get (map (cell_drawn d r table ks) ks) i ≡ Some f → cell_drawn d r table ks k ≡ f = λ i k f at e. (let g : Some (cell_drawn d r table ks k) ≡ Some f = sym (map_to (cell_drawn d r table ks) ks i k at) ∙ e in cc) in
     record {
-      once = once l r table ks ds top link reached;
+      once = once l r table ks fits.names reached;
       count = counts ks;
       names = λ i c f e g.
           let k = number_at l r table ks i c e in
@@ -149,7 +144,7 @@ hierarchy canonical law upright l r table ks ds top link writable sound are reac
           let k = number_at l r table ks i c e in
           let p = part i k.0 f k.1 g in
           let ps = places_at (cell_at d k.0) in
-          let all = arrays (structures l r table ks) d ks ps (λ n x h. named_at l r table ks x.cell reached (placed_reached l k.0 n x writable (reached_at d ks i k.0 reached k.1) h)) in (
+          let all = arrays (structures l r table ks) d ks ps (λ n x h. named_at l r table ks x.cell reached (placed_reached l k.0 n x fits.room (reached_at d ks i k.0 reached k.1) h)) in (
             map (array_drawn d ks) ps,
             subst (λ (x : Cell). AreArrays (structures l r table ks) x.refs (map (array_drawn d ks) ps)) k.2 all,
             sym (ap (λ (x : flat.Cell). x.places) p),

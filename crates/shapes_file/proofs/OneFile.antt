@@ -1,4 +1,4 @@
--- One stream has one shapes file.
+-- A layout has one shapes file.
 use Rattle.std.proofs.Common.{◌≡◌, ◌⊎◌, inl, inr, ℕ, zero, suc, ◌+◌, ◌<◌, Bool, true, false, ◌||◌, List, [], ◌∷◌, map, length, get_or, Option, Some, None, slice_get, refl, sym, ap, subst, ◌∙◌, arith}
 use Rattle.base_laws.proofs.Items.{one_list}
 use Rattle.std.specs.Prelude.{slice_index, IsSomeAnd}
@@ -12,10 +12,9 @@ use Rattle.rect_sets.specs.Rects.{OneListLaw, covers}
 use Rattle.flat_layout.specs.Layout as flat
 use Rattle.flat_layout.specs.Layers.{Formula}
 use Rattle.flat_layout.specs.Values.{IsLocalLayer}
-use Rattle.flat_layout.specs.declared.way.Way.{Way}
 use Rattle.cell_graph.specs.declared.cells.Place.{Place}
 use Rattle.cell_graph.specs.declared.cells.CellPart.{CellPart}
-use Rattle.cell_graph.specs.Linked.{Linked, plain, plain_cell, cell_at, places_at}
+use Rattle.cell_graph.specs.Linked.{Linked, plain, cell_at, places_at}
 use Rattle.deep_tables.specs.Entries.{entry}
 use Rattle.deep_tables.specs.Layers.{AreLayers, AreCellLayers, squares_on}
 use Rattle.deep_tables.specs.declared.layers.CellLayers.{CellLayers}
@@ -26,7 +25,8 @@ use Rattle.gds_elements.specs.Meaning.{Ref}
 use Rattle.gds_shapes.specs.Stream.{Heading, Drawn, library_bytes}
 use Rattle.gds_layout.specs.declared.layout.Header.{Header}
 use Rattle.gds_layout.specs.declared.layout.Layout.{Layout}
-use Rattle.gds_layout.specs.Once.{IsSameHeader, IsSameLayout, OneLayoutLaw, contents}
+use Rattle.gds_layout.specs.Once.{IsSameHeader, IsSameLayout, contents}
+use Rattle.gds_layout.proofs.SamePlain.{same_plain}
 use Rattle.layout_shapes.specs.Wide.{IsFarOut, IsWideCell, has_wide_line, is_wide_line, output_reach}
 use Rattle.layout_shapes.specs.Written.{heading_of, name_of, ref_of, squares_of, line_of, drawn, AreReached}
 use Rattle.shapes_file.specs.File.{IsNarrow, IsShapesFile, IsWide, count_in}
@@ -100,22 +100,6 @@ one_rising (x ∷ xs) (y ∷ ys) a b to back =
     same_first (inr lt) (inr more) = absurd (omega (arith, lt, more))
 
 -- ---- the layouts
-
-plain_map : (xs ys : List CellPart) → map contents xs ≡ map contents ys → map plain_cell xs ≡ map plain_cell ys
-plain_map [] [] e = refl
-plain_map (x ∷ xs) [] e = absurd cc
-plain_map [] (y ∷ ys) e = absurd cc
-plain_map (x ∷ xs) (y ∷ ys) e =
-    let first : contents x ≡ contents y = cc in
-    let rest : map contents xs ≡ map contents ys = cc in
-    ap (λ (p : flat.Cell × List Place). p.0 ∷ map plain_cell xs) first ∙ ap (λ (cs : List flat.Cell). plain_cell y ∷ cs) (plain_map xs ys rest)
-
--- designs whose cells draw and place the same, and keep squares in one way, are one plain layout
-pub same_plain : (d e : Linked) → map contents d.cells ≡ map contents e.cells → d.top ≡ e.top → d.way ≡ e.way → plain d ≡ plain e
-same_plain d e cells top way =
-    ap (λ (cs : List flat.Cell). let f : flat.Design = record { cells = cs; top = d.top; way = d.way } in f) (plain_map d.cells e.cells cells)
-    ∙ ap (λ (t : ℕ). let f : flat.Design = record { cells = map plain_cell e.cells; top = t; way = d.way } in f) top
-    ∙ ap (λ (w : Way). let f : flat.Design = record { cells = map plain_cell e.cells; top = e.top; way = w } in f) way
 
 -- what is written of a cell
 pub record IsSameAt (a b : Option CellPart) : Type 0 where
@@ -232,8 +216,8 @@ module _ (lists : OneListLaw) (l m : Layout) (r : Rules) (s : IsSameLayout l m) 
         rectangle_count = a.rectangle_count ∙ counted ∙ ap (λ (cs : List ℕ). sum_by (count_in b.table r) cs) reached ∙ sym b.rectangle_count;
       }
 
-pub one_file : OneLayoutLaw → OneListLaw → OneFileLaw
-one_file layouts lists bytes top l m r text other cells others rectangles more x y way a b = one_text lists l m r (layouts bytes top l m x y) way text other cells others rectangles more a b
+pub one_file : OneListLaw → OneFileLaw
+one_file lists l m r text other cells others rectangles more alike a b = one_text lists l m r alike.same alike.way text other cells others rectangles more a b
 
 -- ---- the cell for which there is no file
 
@@ -285,8 +269,8 @@ module _ (lists : OneListLaw) (l m : Layout) (r : Rules) (s : IsSameLayout l m) 
       let there = here_too cell b.first.0 in
       a.narrow cell there (wide_back a.table b.table a.layers b.layers cell there b.first.1)
 
-pub one_wide : OneLayoutLaw → OneListLaw → OneWideLaw
-one_wide layouts lists bytes top l m r cell other x y way a b = one_cell lists l m r (layouts bytes top l m x y) way cell other a b
+pub one_wide : OneListLaw → OneWideLaw
+one_wide lists l m r cell other alike a b = one_cell lists l m r alike.same alike.way cell other a b
 
-pub no_file : OneLayoutLaw → OneListLaw → NoFileLaw
-no_file layouts lists bytes top l m r cell x y way a b = no_cell lists l m r (layouts bytes top l m x y) way cell a b
+pub no_file : OneListLaw → NoFileLaw
+no_file lists l m r cell alike a b = no_cell lists l m r alike.same alike.way cell a b

@@ -22,7 +22,8 @@ use Rattle.gds_shapes.specs.References.{FitsReference}
 use Rattle.gds_shapes.specs.Accepted.{ReadHeadingLaw, ReadReferencesLaw, ReadLaw, IsRead as IsReadCell}
 use Rattle.layout_shapes.specs.Written.{name_of, ref_of}
 use Rattle.layout_shapes.specs.Writable.{IsWritableCell}
-use Rattle.shapes_file.specs.Read.{WritableLaw}
+use Rattle.shapes_file.specs.Read.{FitsStreamLaw}
+use Rattle.shapes_file.proofs.Linked.{heights, one_name, reached_in}
 
 -- ---- lists
 
@@ -84,21 +85,26 @@ cell_writable v top l h read fits i part e =
       refs = λ k q lt. place_fits h.drafts top l.design s.0 at.0 part i h.linked s.2 is all k (get_or part.places.items k q) (slice_get-get_or part.places.items k q lt);
     }
 
-pub read_back : ReadHeadingLaw → ReadReferencesLaw → ReadLaw → WritableLaw
+pub read_back : ReadHeadingLaw → ReadReferencesLaw → ReadLaw → FitsStreamLaw
 read_back headings references cells bytes top l h =
     let v = h.library in
     let of = h.layout in
+    let link = of.linked in
     let heading = headings bytes v h.accepted in
     let read = cells bytes v h.accepted in
     record {
-      heading = record {
-        version = subst (λ (b : List ℕ). IsData 2 b) (sym of.header.version) heading.version;
-        dates = subst (λ (b : List ℕ). IsData 24 b) (sym of.header.dates) heading.dates;
-        name = subst (λ (b : List ℕ). IsText b) (sym of.header.name) heading.name;
-        units = subst (λ (b : List ℕ). IsData 16 b) (sym of.header.units) heading.units;
-        unit = ap (λ (b : List ℕ). has_unit b) of.header.units ∙ heading.unit;
+      room = record {
+        heading = record {
+          version = subst (λ (b : List ℕ). IsData 2 b) (sym of.header.version) heading.version;
+          dates = subst (λ (b : List ℕ). IsData 24 b) (sym of.header.dates) heading.dates;
+          name = subst (λ (b : List ℕ). IsText b) (sym of.header.name) heading.name;
+          units = subst (λ (b : List ℕ). IsData 16 b) (sym of.header.units) heading.units;
+          unit = ap (λ (b : List ℕ). has_unit b) of.header.units ∙ heading.unit;
+        };
+        count = ap (λ (ds : List (List ℕ)). length ds) of.cell_dates ∙ map_count (λ (c : Cell). c.dates) v.cells ∙ sym (same_count v.cells of.drafts of.drafted) ∙ sym of.linked.count;
+        dates = subst (λ (ds : List (List ℕ)). All (IsData 24) ds) (sym of.cell_dates) (All-map (IsData 24) (λ (c : Cell). c.dates) v.cells (λ k q lt. (read k q lt).cell_dates));
+        each = cell_writable v top l of read (references bytes v h.accepted);
       };
-      count = ap (λ (ds : List (List ℕ)). length ds) of.cell_dates ∙ map_count (λ (c : Cell). c.dates) v.cells ∙ sym (same_count v.cells of.drafts of.drafted) ∙ sym of.linked.count;
-      dates = subst (λ (ds : List (List ℕ)). All (IsData 24) ds) (sym of.cell_dates) (All-map (IsData 24) (λ (c : Cell). c.dates) v.cells (λ k q lt. (read k q lt).cell_dates));
-      each = cell_writable v top l of read (references bytes v h.accepted);
+      names = λ j k a b e. one_name of.drafts top l.design j k link (reached_in of.drafts top l.design j link a) (reached_in of.drafts top l.design k link b) e;
+      heights = heights of.drafts top l.design link;
     }

@@ -1,7 +1,7 @@
 -- What a written text means: expanded through all its references, it covers exactly the squares
 -- that the rules' names have pointwise over the flat layout.
 use Rattle.std.specs.Prelude.{◌≡◌, ◌≢◌, ◌↔◌, ℕ, true, List, [], ◌∷◌, map, length, get_or, slice_get}
-use Rattle.std.specs.Prelude.{Some, Option}
+use Rattle.std.specs.Prelude.{Some}
 use Rattle.std.specs.List.{All}
 use Rattle.cell_graph.specs.Linked.{plain, cell_at}
 use Rattle.flat_layout.specs.Arrays.{Reference, places_of}
@@ -10,12 +10,11 @@ use Rattle.flat_layout.specs.Layout.{Design, Place, IsOwn, IsPlaced, InFlatInput
 use Rattle.flat_layout.specs.Layout as flat
 use Rattle.gds_elements.specs.Faults.{Accepts}
 use Rattle.gds_elements.specs.Meaning.{Cell, Library, Ref}
-use Rattle.gds_layout.specs.Layouts.{IsRead}
 use Rattle.gds_layout.specs.Shapes.{shapes_cover}
 use Rattle.gds_layout.specs.declared.layout.Layout.{Layout}
 use Rattle.geo_base.specs.declared.layer.LayerKey.{LayerKey}
 use Rattle.geo_base.specs.declared.shapes.Square.{Square}
-use Rattle.layout_shapes.specs.Writable.{placing}
+use Rattle.layout_shapes.specs.Writable.{FitsStream, placing}
 use Rattle.layout_shapes.specs.Written.{AreReached, name_of}
 use Rattle.rule_layers.specs.Formulas.{formulas}
 use Rattle.rule_text.specs.Rules.{Rules}
@@ -103,8 +102,7 @@ pub record CoversFlat (l : Layout) (r : Rules) (text : List ℕ) : Type 0 where
   pub others : (key : LayerKey) → All (λ o. o.key ≢ key) r.outputs → (q : Square)
       → InFlatInput design design.top key q → ⊥
 
--- so it is of each layout that was read, for each sound rule set
+-- so it is of each layout that fits a stream, for each sound rule set
 abbrev pub CoversFlatLaw : Type 0
-CoversFlatLaw = (bytes : List ℕ) (top : Option (List ℕ)) (l : Layout) (r : Rules) (text : List ℕ)
-    (cells rectangles : ℕ) → IsRead bytes top l → IsSound r → IsShapesFile l r text cells rectangles
-    → CoversFlat l r text
+CoversFlatLaw = (l : Layout) (r : Rules) (text : List ℕ) (cells rectangles : ℕ) → FitsStream l
+    → IsSound r → IsShapesFile l r text cells rectangles → CoversFlat l r text

@@ -1,9 +1,8 @@
 //! A layout's shapes file, and what a summary line counts in it.
 
-ghost use Rattle.std.specs.Prelude.{ℕ, List, Option, None, IfOk};
+ghost use Rattle.std.specs.Prelude.{None, IfOk};
 ghost use Rattle.cell_graph.specs.Linked.{plain};
 ghost use Rattle.deep_tables.specs.Layers.{AreLayers};
-ghost use Rattle.gds_layout.specs.Layouts.{IsRead};
 ghost use Rattle.layout_shapes.specs.Wide.{IsFirstWide};
 ghost use Rattle.layout_shapes.specs.Writable.{IsWritable};
 ghost use Rattle.rule_text.specs.Seen.{rules_seen};
@@ -11,7 +10,6 @@ ghost use Rattle.rule_text.specs.Sound.{IsSound};
 ghost use Rattle.shapes_file.specs.File.{IsDrawing, IsShapesFile};
 
 use crate::count::count_rectangles;
-use crate::laws::writable;
 use deep_flow::derive_layers;
 use deep_tables::{Layers, layer_table};
 use gds_layout::Layout;
@@ -40,18 +38,18 @@ pub enum Drawing {
     Wide(u32),
 }
 
-/// The shapes file of a layout that was read: the cells that the top reaches, each with its
-/// references and the squares that it holds itself of each output line of the rules. Nothing is
-/// flattened: a cell is worked once, however often it is placed. The answer is the same for every
-/// number of workers, of which there are 1 to 64. An `Err` is want of memory. Cost: the layers of
-/// each cell, and the bytes written.
+/// The shapes file of a layout for which a stream has room: the cells that the top reaches, each
+/// with its references and the squares that it holds itself of each output line of the rules.
+/// Nothing is flattened: a cell is worked once, however often it is placed. The answer is the same
+/// for every number of workers, of which there are 1 to 64. An `Err` is want of memory. Cost: the
+/// layers of each cell, and the bytes written.
 pub fn shapes_file<R: Threads + Wait + Sync, G: Gate + Sync>(
     alloc: Global,
     layout: &Layout,
     rules: &RuleSet,
     crew: &Crew<R, G>,
 ) -> Result<Drawing, AllocError>
-    requires read { (bytes : List ℕ) × (top : Option (List ℕ)) × IsRead bytes top layout.now }
+    requires layout { IsWritable layout.now }
     requires rules { IsSound (rules_seen rules.now) }
     ensures { IfOk result (IsDrawing layout.now (rules_seen rules.now)) }
 {
@@ -59,20 +57,19 @@ pub fn shapes_file<R: Threads + Wait + Sync, G: Gate + Sync>(
     shapes_of_layers(alloc, layout, rules, &layers)
 }
 
-/// The shapes file of a layout that was read, over its layers. An `Err` is want of memory. Linear
-/// in what the cells hold of the output lines, and in the bytes written.
+/// The shapes file of a layout for which a stream has room, over its layers. An `Err` is want of
+/// memory. Linear in what the cells hold of the output lines, and in the bytes written.
 pub fn shapes_of_layers(
     alloc: Global,
     layout: &Layout,
     rules: &RuleSet,
     layers: &Layers,
 ) -> Result<Drawing, AllocError>
-    requires read { (bytes : List ℕ) × (top : Option (List ℕ)) × IsRead bytes top layout.now }
+    requires layout { IsWritable layout.now }
     requires rules { IsSound (rules_seen rules.now) }
     requires layers { AreLayers (plain layout.now.design) (rules_seen rules.now) layers.now }
     ensures { IfOk result (IsDrawing layout.now (rules_seen rules.now)) }
 {
-    writable();
     match wide_cell(alloc, layout, rules, layers)? {
         Some(cell) => Ok(Drawing::Wide(cell)),
         None => Ok(Drawing::Whole(write_file(alloc, layout, rules, layers)?)),

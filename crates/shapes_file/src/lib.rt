@@ -1,4 +1,4 @@
-//! The shapes file of a layout that was read.
+//! The shapes file of a layout.
 #![tactic(auto)]
 
 mod count;

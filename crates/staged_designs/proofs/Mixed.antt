@@ -2,7 +2,6 @@
 use Rattle.std.proofs.Common.{◌≡◌, ◌⊎◌, ◌↔◌, inl, inr, ℕ, zero, suc, Bool, true, false, not, cond, List, [], ◌∷◌, ◌++◌, Some, None, length, slice_get, refl, sym, ◌∙◌, ap, subst, arith}
 use Rattle.std.specs.List.{filter}
 use Rattle.std.proofs.lemmas.Bool.{cases_Bool}
-use Rattle.base_laws.proofs.Items.{one_entry}
 use Rattle.base_laws.proofs.Tests.{not_both}
 use Rattle.flat_layout.specs.Layout.{Cell, Design, Layer, Place, Some_of, Text, HasText, IsOwn, IsPlaced, IsReached}
 use Rattle.flat_layout.specs.Plane.{IsIn}
@@ -11,7 +10,7 @@ use Rattle.geo_base.specs.declared.layer.LayerKey.{LayerKey}
 use Rattle.geo_base.specs.declared.shapes.Square.{Square}
 use Rattle.cell_graph.proofs.Bridge.{key_is, key_own, key_same}
 use Rattle.cell_graph.proofs.Resolving.{at_too}
-use Rattle.select_laws.specs.Layered.{IsLayered, IsOwnSelected, IsSameElse}
+use Rattle.select_laws.specs.Layered.{IsOwnSelected, IsSameElse}
 use Rattle.select_laws.specs.Selects.{sight}
 use Rattle.select_laws.specs.Staged.{Stage, IsStaged, IsKeyOf, Reads}
 use Rattle.select_laws.specs.Whole.{ArePartedRegions}
@@ -75,7 +74,7 @@ off_key key other q differ l h = elim (key_is l.key key) [
   | inr e ↦ e
 ]
 
-abbrev mixed : LayerKey → List Cell → List Cell → List Cell
+abbrev pub mixed : LayerKey → List Cell → List Cell → List Cell
 mixed key [] ps = []
 mixed key (c ∷ cs) [] = []
 mixed key (c ∷ cs) (p ∷ ps) = record { name = c.name; layers = filter (is_key key) p.layers ++ filter (isnt_key key) c.layers; texts = c.texts; places = c.places } ∷ mixed key cs ps
@@ -120,7 +119,7 @@ pub record Holds (d e : Design) (ss : List Stage) : Type 0 where
 
 module _ (d e : Design) (alike : AreAlike d e) (key : LayerKey) where
   abbrev m : Design
-  m = record { cells = mixed key d.cells e.cells; top = d.top }
+  m = record { cells = mixed key d.cells e.cells; top = d.top; way = d.way }
 
   mixed_of : (cell : ℕ) (c : Cell) → slice_get d.cells cell ≡ Some c → (p : Cell) × (slice_get e.cells cell ≡ Some p) × (slice_get m.cells cell ≡ Some (mix key c p))
   mixed_of cell c at = let p = at_too d.cells e.cells cell c alike.count at in (p.0, p.1, mixed_at key d.cells e.cells cell c p.0 at p.1)
@@ -137,7 +136,7 @@ module _ (d e : Design) (alike : AreAlike d e) (key : LayerKey) where
     (λ h. let r = mixed_of cell h.0 h.1 in (mix key h.0 r.0, r.2, h.2)),
   )
 
-  mixed_other : (cell : ℕ) (other : LayerKey) (q : Square) → (other ≡ key → ⊥) → IsOwn m cell other q ↔ IsOwn d cell other q
+  pub mixed_other : (cell : ℕ) (other : LayerKey) (q : Square) → (other ≡ key → ⊥) → IsOwn m cell other q ↔ IsOwn d cell other q
   mixed_other cell other q differ = (
     (λ h.
         let a = at_mixed key d.cells e.cells cell h.0 h.1 in
@@ -158,7 +157,7 @@ module _ (d e : Design) (alike : AreAlike d e) (key : LayerKey) where
         )),
   )
 
-  mixed_key : (cell : ℕ) (q : Square) → IsOwn m cell key q ↔ IsOwn e cell key q
+  pub mixed_key : (cell : ℕ) (q : Square) → IsOwn m cell key q ↔ IsOwn e cell key q
   mixed_key cell q = (
     (λ h.
         let a = at_mixed key d.cells e.cells cell h.0 h.1 in
@@ -223,7 +222,7 @@ staged (t ∷ ts) s d e free apart h = (
 )
   where
     middle : Design
-    middle = record { cells = mixed s.key d.cells e.cells; top = d.top }
+    middle = record { cells = mixed s.key d.cells e.cells; top = d.top; way = d.way }
 
     same : IsSameElse d middle s.key
     same = mixed_same d e h.alike s.key
@@ -232,13 +231,13 @@ staged (t ∷ ts) s d e free apart h = (
     new cell q reached = let a = mixed_key d e h.alike s.key cell q in let b = h.each 0 s refl cell q reached in ((λ x. b.0 (a.0 x)), (λ x. a.1 (b.1 x)))
 
     other_key : (key : LayerKey) → (IsKeyOf (t ∷ ts) key → ⊥) → (key ≡ s.key → ⊥) → IsKeyOf (s ∷ (t ∷ ts)) key → ⊥
-    other_key key no differ (inl k) = differ (sym k)
-    other_key key no differ (inr k) = no k
+    other_key key free_of differ (inl k) = differ (sym k)
+    other_key key free_of differ (inr k) = free_of k
 
     rest : Holds middle e (t ∷ ts)
     rest = record {
       alike = mixed_alike d e h.alike s.key;
-      others = λ cell key q no. elim (key_is key s.key) [
+      others = λ cell key q free_of. elim (key_is key s.key) [
         | inl k ↦
             let is : key ≡ s.key = key_same key s.key k in
             let a = mixed_key d e h.alike s.key cell q in
@@ -246,7 +245,7 @@ staged (t ∷ ts) s d e free apart h = (
         | inr k ↦
             let differ : key ≡ s.key → ⊥ = λ same. not_both (is_same_key key s.key) (subst (λ x. is_same_key key x ≡ true) same (key_own key)) k in
             let a = mixed_other d e h.alike s.key cell key q differ in
-            let b = h.others cell key q (other_key key no differ) in ((λ x. a.1 (b.0 x)), (λ x. b.1 (a.0 x)))
+            let b = h.others cell key q (other_key key free_of differ) in ((λ x. a.1 (b.0 x)), (λ x. b.1 (a.0 x)))
       ];
       each = λ i u at cell q reached.
           let b = h.each (suc i) u at cell q (reached_to d middle s.key same cell reached) in

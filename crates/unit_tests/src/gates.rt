@@ -2,7 +2,7 @@
 
 use crate::common::{near_part, set_of};
 use gate_search::{Whole, gather_around};
-use gate_shapes::{Around, GateCause, GateForm, GateShape, least, parts, shape_of};
+use gate_shapes::{Around, GateCause, GateForm, GateShape, corner_parts, least, parts, shape_of};
 use geo_base::{Op, Rect, Square};
 use rect_sets::RectSet;
 use std::alloc::{AllocError, Global};
@@ -99,6 +99,7 @@ fn a_large_gate(rt: HostRuntime) -> Result<(), Fail> {
     Ok(())
 }
 
+// But for those of regions.
 #[test]
 fn corners_do_not_join(rt: HostRuntime) -> Result<(), Fail> {
     let alloc = rt.alloc();
@@ -119,6 +120,8 @@ fn corners_do_not_join(rt: HostRuntime) -> Result<(), Fail> {
     {
         assert!(rt; least(part) == Some(want));
     }
+    let regions = corner_parts(alloc, &set)?;
+    assert!(rt; regions.len() == 1);
     Ok(())
 }
 

@@ -4,7 +4,7 @@ use crate::rule_shown::all_answer;
 use std::test::Fail;
 
 /// Files, and their whole rule sets.
-static FILES: [(&str, &str); 3] = [
+static FILES: [(&str, &str); 4] = [
     // One transistor over an active layer, with text labels.
     (
         "active = input(2, 0)
@@ -151,6 +151,66 @@ flattens unmatched
 tells pins
 combine
 guesses 1000000
+",
+    ),
+    // Each word that chooses regions, and selections of selections. A bound may be nil; eighteen
+    // digits are the most.
+    (
+        "a = input(1, 0)
+b = a.sized(10000)
+c = a.interacting(b)
+d = c . not_interacting ( a )
+e = a.overlapping(d)
+f = a.not_overlapping(a)
+g = e.sized(10000)
+h = g.inside(b)
+i = a.not_inside(b)
+j = a.outside(b)
+k = a.not_outside(b)
+l = a.with_area(7)
+m = a.without_area(000000000000000000)
+n = a.with_area(0, 999999999999999999)
+o = a.without_area(3, 2)
+p = a.with_area(nil, 999999999999999999)
+q = a.with_area(5, nil)
+nil = q & p
+interacting = nil.interacting(nil)
+",
+        "a input 1/0
+b 0 sized 10000
+c input 65536/2
+d input 65536/3
+e input 65536/4
+f input 65536/5
+g 4 sized 10000
+h input 65536/7
+i input 65536/8
+j input 65536/9
+k input 65536/10
+l input 65536/11
+m input 65536/12
+n input 65536/13
+o input 65536/14
+p input 65536/15
+q input 65536/16
+nil 16&15
+interacting input 65536/18
+select 2 0 interacting 1
+select 3 2 not interacting 0
+select 4 0 overlapping 3
+select 5 0 not overlapping 0
+select 7 6 inside 1
+select 8 0 not inside 1
+select 9 0 outside 1
+select 10 0 not outside 1
+select 11 0 from 7 below 8 0
+select 12 0 not from 0 below 1 0
+select 13 0 from 0 below 999999999999999999 0
+select 14 0 not from 3 below 2 0
+select 15 0 from 0 below 999999999999999999 0
+select 16 0 from 5 0
+select 18 17 interacting 17
+guesses 1000
 ",
     ),
 ];

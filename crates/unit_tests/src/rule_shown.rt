@@ -2,7 +2,10 @@
 
 use geo_base::Op;
 use net_names::Name;
-use rule_text::{LayerForm, LayerRule, MoreRule, MosRule, Output, RuleFault, RuleSet, read_rules};
+use rule_text::{
+    Ask, LayerForm, LayerRule, MoreRule, MosRule, Output, RuleFault, RuleSet, SelectRule,
+    read_rules,
+};
 use std::alloc::{AllocError, Global};
 use std::process::Abort;
 use std::str;
@@ -65,6 +68,33 @@ fn name_shown(alloc: Global, rule: &LayerRule) -> Result<String, AllocError> {
         LayerForm::Sized(a, by) => format!(in alloc; "{name} {a} sized {by}\n"),
         LayerForm::Binary(op, a, b) => format!(in alloc; "{name} {a}{}{b}\n", sign_of(op)),
     }
+}
+
+fn ask_shown(alloc: Global, ask: Ask) -> Result<String, AllocError> {
+    match ask {
+        Ask::Interacting => format!(in alloc; "interacting"),
+        Ask::Overlapping => format!(in alloc; "overlapping"),
+        Ask::Inside => format!(in alloc; "inside"),
+        Ask::Outside => format!(in alloc; "outside"),
+        Ask::WithArea { low, high: None } => format!(in alloc; "from {low}"),
+        Ask::WithArea {
+            low,
+            high: Some(high),
+        } => format!(in alloc; "from {low} below {high}"),
+    }
+}
+
+fn add_selects(alloc: Global, out: &mut String, selects: &[SelectRule]) -> Result<(), AllocError> {
+    for s in selects {
+        let ask = ask_shown(alloc, s.ask)?;
+        let others = word_if(s.others, "not ");
+        let (name, region, other) = (s.name, s.region, s.other);
+        add(
+            out,
+            format!(in alloc; "select {name} {region} {others}{ask} {other}\n"),
+        )?;
+    }
+    Ok(())
 }
 
 fn add_outputs(alloc: Global, out: &mut String, outputs: &[Output]) -> Result<(), AllocError> {
@@ -139,6 +169,7 @@ fn word_if(is_so: bool, word: &'static str) -> &'static str {
 
 fn add_lists(alloc: Global, out: &mut String, rules: &RuleSet) -> Result<(), AllocError> {
     add_names(alloc, out, &rules.names)?;
+    add_selects(alloc, out, &rules.selects)?;
     add_outputs(alloc, out, &rules.outputs)?;
     add_connects(alloc, out, &rules.connects)?;
     add_globals(alloc, out, &rules.globals)?;

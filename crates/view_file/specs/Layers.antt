@@ -1,5 +1,6 @@
 -- The layers of the database and what they join.
-use Rattle.std.specs.Prelude.{ℕ, List, [], ◌∷◌, ◌++◌, codes, decimal, get_or}
+use Rattle.std.specs.Prelude.{ℕ, List, [], ◌∷◌, ◌++◌, codes, decimal, get_or, nat_le}
+use Rattle.std.specs.Prelude.{if◌then◌else◌}
 use Rattle.geo_base.specs.declared.layer.LayerKey.{LayerKey}
 use Rattle.rule_text.specs.declared.rules.LayerForm.{LayerForm}
 use Rattle.rule_text.specs.declared.rules.LayerForm.TheVariants.{Input, Labels, Empty, Binary}
@@ -15,9 +16,9 @@ key_text key = decimal key.layer ++ (0x2F ∷ decimal key.datatype)
 abbrev pub two_words : List ℕ → List ℕ → List ℕ
 two_words a b = word a ++ (0x20 ∷ (word b ++ codes ")"))
 
--- where an input layer comes from
+-- where an input layer comes from, unless it is a selection, which no stream has
 abbrev pub source_text : LayerForm → List ℕ
-source_text (Input key) = 0x20 ∷ word (key_text key)
+source_text (Input key) = if nat_le 65536 key.layer then [] else 0x20 ∷ word (key_text key)
 source_text (Labels key) = []
 source_text Empty = []
 source_text (Binary op a b) = []

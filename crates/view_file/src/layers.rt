@@ -27,6 +27,9 @@ fn push_source(alloc: Global, out: &mut Vec<u8>, form: &LayerForm) -> Result<(),
 {
     match form {
         LayerForm::Input(key) => {
+            if key.layer >= 65_536 {
+                return Ok(());
+            }
             let text = key_text(alloc, *key)?;
             out.push(b' ')?;
             push_word(out, &text)

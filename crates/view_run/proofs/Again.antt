@@ -1,5 +1,5 @@
 -- What is shown of a comparison, as its circuits were answered, is as what was compared.
-use Rattle.std.proofs.Common.{◌≡◌, ◌∙◌, ◌&&◌, ◌||◌, ℕ, Bool, true, false, true≢false, List, ◌∷◌, [], Option, Some, None, IfSome, length, map, refl, sym, ap, ap₂, subst}
+use Rattle.std.proofs.Common.{◌≡◌, ◌∙◌, ◌&&◌, ◌||◌, ℕ, true, List, ◌∷◌, [], Option, Some, None, IfSome, length, map, refl, sym, ap, subst}
 use Rattle.std.proofs.lemmas.Bool.{and_parts}
 use Rattle.std.specs.List.{list_any}
 use Rattle.device_merge.specs.Merged.{IsNarrow, has_alike}
@@ -10,7 +10,7 @@ use Rattle.match_report.specs.declared.report.Compared.{Compared}
 use Rattle.match_laws.specs.Answer.{Answer as Plain}
 use Rattle.match_types.specs.Plain.{plain_answer}
 use Rattle.match_types.specs.declared.answer.Answer.{Answer}
-use Rattle.merge_laws.specs.Grouped.{merged_circuit, merged_netlist}
+use Rattle.merge_laws.specs.Grouped.{merged_circuit}
 use Rattle.net_model.specs.Faults.{called_by}
 use Rattle.net_model.specs.Rows.{plain_netlist}
 use Rattle.pair_jobs.specs.Answers.{is_difference}
@@ -21,7 +21,7 @@ use Rattle.report_file.specs.File.{all_answers, pair_count}
 use Rattle.rule_text.specs.Rules.{Rules}
 use Rattle.view_file.specs.declared.layout.Picture.{Picture}
 use Rattle.view_run.specs.Answered.{IsShownAgain}
-use Rattle.view_run.specs.Views.{Again, AreAllPaired, ArePaired, AsAligned, CanBeOrdered, IsMergedAgain, IsShown, again_in, shown_rights}
+use Rattle.view_run.specs.Views.{Again, AreAllPaired, ArePaired, AsAligned, CanBeOrdered, IsMergedAgain, IsShown, shown_rights}
 
 pub shown_again : (o : Option Compared) (c : Compared) (s : Option Compared) (p q : Picture) → o ≡ Some c → c.merged_again ≡ true → IsShownAgain c s p q → IsShown o s p q
 shown_again o c s p q is again h = Again c h.again is again h.is h.merged h.picture

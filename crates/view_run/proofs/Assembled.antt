@@ -1,5 +1,5 @@
 -- What is made of a layout and a schematic, or why nothing is.
-use Rattle.std.proofs.Common.{◌≡◌, ◌<◌, ◌*◌, ◌∙◌, ℕ, Bool, true, false, cond, List, Option, length, slice_get, refl, sym, ap, subst, arith}
+use Rattle.std.proofs.Common.{◌≡◌, ◌<◌, ◌*◌, ◌∙◌, ℕ, Bool, true, false, cond, List, Option, length, refl, sym, ap, subst, arith}
 use Rattle.std.proofs.lemmas.List.{length-map}
 use Rattle.std.proofs.lemmas.Option.{slice_get_within}
 use Rattle.cell_graph.specs.Linked.{Linked, cell_at, plain}
@@ -11,7 +11,6 @@ use Rattle.deep_tables.specs.declared.nets.CellNets.{CellNets}
 use Rattle.deep_tables.specs.declared.pins.CellPins.{CellPins}
 use Rattle.gds_layout.specs.declared.layout.Layout.{Layout}
 use Rattle.match_report.specs.Gates.{name_of as cell_name}
-use Rattle.match_report.specs.Pairs.{name_of}
 use Rattle.match_report.specs.declared.report.Compared.{Compared}
 use Rattle.merge_laws.specs.Grouped.{merged_circuit, merged_netlist}
 use Rattle.net_align.specs.Compared.{AreCalleesFirst, IsAlignable}

@@ -1,7 +1,7 @@
 -- What the inputs, read one after the other, come to.
 use Rattle.std.proofs.Common.{◌≡◌, ℕ, Bool, List, ◌∷◌, Option, Some, None, is_some, refl, ◌∙◌}
 use Rattle.std.specs.Option.{option_map}
-use Rattle.gds_layout.specs.Layouts.{IsRead}
+use Rattle.run_layout.specs.RunLayout.{IsRunLayout}
 use Rattle.gds_layout.specs.declared.layout.Layout.{Layout}
 use Rattle.lvs_outside.specs.Files.{File}
 use Rattle.lvs_outside.specs.Store.{Store}
@@ -13,7 +13,6 @@ use Rattle.pair_jobs.specs.declared.verdict.Verdict.{Verdict}
 use Rattle.plain_netlist.specs.Netlist.{Netlist}
 use Rattle.rule_text.specs.Reading.{Means}
 use Rattle.rule_text.specs.Rules.{Rules}
-use Rattle.rule_layers.specs.Meaning.{way_of}
 use Rattle.spice_rows.specs.Sizes.{read_limit}
 use Rattle.spice_text.specs.Means.{Means as SpiceMeans}
 use Rattle.view_run.specs.Stated.{Asked}
@@ -29,12 +28,12 @@ module _ (q : Asked) (old mid : Store) (r : Rules) (apart : q.shared ≡ None) (
   reads_rules : ReadsRules (Some q) old mid q r
   reads_rules = record { asks = record { stated = refl; apart = apart }; rules = rules }
 
-  pub layout_stop : (new : Store) (a : Answer) (e : End) → e ≡ AsRun a → RefusesLayout mid new q.layout q.top a → Stops (Some q) old new e
+  pub layout_stop : (new : Store) (a : Answer) (e : End) → e ≡ AsRun a → RefusesLayout mid new q.layout q.top r a → Stops (Some q) old new e
   layout_stop new a e same h = BadLayout q r mid a reads_rules rules.got.faults h same
 
-  module _ (late : Store) (l : Layout) (layout : ReadAs mid late q.layout (λ bytes. IsRead bytes q.top l)) (way : l.design.way ≡ way_of r) where
+  module _ (late : Store) (l : Layout) (layout : ReadAs mid late q.layout (λ bytes. IsRunLayout bytes q.top r l)) where
     reads_layout : ReadsLayout (Some q) old late q r l
-    reads_layout = record { mid = mid; rules = reads_rules; layout = layout; way = way }
+    reads_layout = record { mid = mid; rules = reads_rules; layout = layout }
 
     pub schematic_stop : (new : Store) (a : Answer) (e : End) → e ≡ AsRun a → RefusesSchematic late new q.schematic a → Stops (Some q) old new e
     schematic_stop new a e same h = BadSchematic q r l late a reads_layout (layout.got.faults ∙ rules.got.faults) h same

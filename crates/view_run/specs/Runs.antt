@@ -1,6 +1,6 @@
 -- What a run comes to: what it read, why it wrote nothing, or what it wrote and sent.
 use Rattle.std.specs.Prelude.{◌≡◌, ◌≢◌, ◌⊎◌, ℕ, List, [], ◌∷◌, Option, Some, None, IfSome, is_some}
-use Rattle.gds_layout.specs.Layouts.{IsRead}
+use Rattle.run_layout.specs.RunLayout.{IsRunLayout}
 use Rattle.gds_layout.specs.declared.layout.Layout.{Layout}
 use Rattle.lvs_outside.specs.Files.{File, WrotePart, WroteWhole}
 use Rattle.lvs_outside.specs.Store.{Store}
@@ -14,7 +14,6 @@ use Rattle.pair_jobs.specs.declared.verdict.Verdict.{Verdict}
 use Rattle.plain_netlist.specs.Netlist.{Netlist}
 use Rattle.rule_text.specs.Reading.{Means}
 use Rattle.rule_text.specs.Rules.{Rules}
-use Rattle.rule_layers.specs.Meaning.{way_of}
 use Rattle.spice_rows.specs.Sizes.{read_limit}
 use Rattle.spice_text.specs.Means.{Means as SpiceMeans}
 use Rattle.view_run.specs.Stated.{Asked}
@@ -33,7 +32,7 @@ abbrev pub IsPageApart : Asked → Type 0
 IsPageApart q = IfSome q.page (λ path. q.database ≢ path)
 
 -- the rule file was read whole, and then the layout's, and then the schematic's, with these
--- meanings; cells keep squares as the rules say
+-- meanings, the layout's with the rules' selections
 pub record ReadsRules (words : Option Asked) (old new : Store) (q : Asked) (r : Rules)
     : Type 0 where
   pub asks : Asks words q
@@ -43,8 +42,7 @@ pub record ReadsLayout (words : Option Asked) (old new : Store) (q : Asked) (r :
     : Type 0 where
   pub mid : Store
   pub rules : ReadsRules words old mid q r
-  pub layout : ReadAs mid new q.layout (λ bytes. IsRead bytes q.top l)
-  pub way : l.design.way ≡ way_of r
+  pub layout : ReadAs mid new q.layout (λ bytes. IsRunLayout bytes q.top r l)
 
 pub record ReadsAll (words : Option Asked) (old new : Store) (q : Asked) (r : Rules) (l : Layout)
     (nl : Netlist) : Type 0 where
@@ -62,7 +60,7 @@ pub data Stops (words : Option Asked) (old new : Store) (e : End) : Type 0 where
   BadRules : (q : Asked) (a : Answer) → Asks words q → RefusesRules old new q.rules a
       → e ≡ AsRun a → Stops words old new e
   BadLayout : (q : Asked) (r : Rules) (mid : Store) (a : Answer) → ReadsRules words old mid q r
-      → mid.faults ≡ old.faults → RefusesLayout mid new q.layout q.top a → e ≡ AsRun a
+      → mid.faults ≡ old.faults → RefusesLayout mid new q.layout q.top r a → e ≡ AsRun a
       → Stops words old new e
   BadSchematic : (q : Asked) (r : Rules) (l : Layout) (mid : Store) (a : Answer)
       → ReadsLayout words old mid q r l → mid.faults ≡ old.faults

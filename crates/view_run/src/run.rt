@@ -24,7 +24,6 @@ use lvs_run::{Refusal, layout_of, refusal_line, rules_of, schematic_of};
 use lvs_words::WordFault;
 use pair_jobs::Verdict;
 use report_file::read_alignable;
-use rule_layers::way_of;
 use std::alloc::{AllocError, Global};
 use std::sync::Wait;
 use std::thread::Threads;
@@ -105,7 +104,8 @@ fn prepare<R: Threads + Wait + Sync, D: Depot, G: Gate + Sync>(
         Ok(rules) => rules,
         Err(stop) => return Err(run_stop(stop)),
     };
-    let layout = match layout_of(alloc, depot, &task.layout, &task.top, way_of(&rules)) {
+    let crew = Crew::new(rt, task.workers, gate);
+    let layout = match layout_of(alloc, depot, &task.layout, &task.top, &rules, &crew) {
         Ok(layout) => layout,
         Err(stop) => return Err(run_stop(stop)),
     };
@@ -113,7 +113,6 @@ fn prepare<R: Threads + Wait + Sync, D: Depot, G: Gate + Sync>(
         Ok(schematic) => schematic,
         Err(stop) => return Err(run_stop(stop)),
     };
-    let crew = Crew::new(rt, task.workers, gate);
     let paged = task.page.is_some();
     let made = make_view(alloc, &layout, &rules, schematic, paged, &crew)?;
     let output = output_of(alloc, task, made)?;

@@ -3,7 +3,7 @@ use Rattle.std.proofs.lemmas.Option.{slice_get-get_or, slice_get_within}
 use Rattle.cell_graph.specs.declared.drafts.CellDraft.{CellDraft}
 use Rattle.cell_graph.specs.Layering.{IsDraftOf}
 use Rattle.cell_graph.proofs.Finishes.{at_middle, one_yielded}
-use Rattle.cell_graph.proofs.LayeredDrafts.{DraftedTo, nothing_drafted, one_drafted}
+use Rattle.cell_graph.proofs.LayeredDrafts.{DraftedTo, one_drafted}
 use Rattle.cell_graph.proofs.layering.drafts_of.Goals as goal
 
 pub loop-cell-preserved : goal.loop-cell-preserved
@@ -28,3 +28,11 @@ loop-cell-preserved c =
       ap (λ k. k + 1) inv.1 ∙ sym (length-append c.loop-cell.yielded (cell ∷ [])),
       subst (λ (ds : List CellDraft). DraftedTo c.args.names.now cells c.args.keys.now c.args.further.items (i + 1) (set further i c.replace-more.new.dest) ds) (sym items) next,
     )
+
+pub draft_of-requires : goal.draft_of-requires
+draft_of-requires c =
+    let cells = c.args.cells.items in
+    let inv = c.loop-cell.invariant in
+    let steps = (c.in-Some.ensures {u = tt}).steps.0 in
+    let cell = c.in-Some.cell in
+    c.requires.inside (length c.loop-cell.yielded) cell (at_middle cells c.loop-cell.yielded c.next.new.self.rest.items c.loop-cell.cell-iterator.rest.items cell inv.0 steps)

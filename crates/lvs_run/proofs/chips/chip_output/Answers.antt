@@ -32,7 +32,7 @@ returns-in_err-schematic-clause-stops g c =
     let rules = c.in_ok-rules.ensures in
     let layout = c.in_ok-layout.ensures in
     rw (e.1, e.2) (λ s. no_schematic_of task.n task.seed (string_bytes task.prefix) s _ _ _ _ (rules_seen c.in_ok-rules.rules) c.in_ok-layout.layout _ (c.as_slice.ensures.value ∙ c.in_ok-texts.ensures.rules)
-    (c.as_slice-2.ensures.value ∙ c.in_ok-texts.ensures.layout) (c.as_slice-3.ensures.value ∙ c.in_ok-texts.ensures.schematic) c.in_ok-top.ensures rules.short rules.found layout.short (layout.found, layout.way ∙ c.way_of-way.ensures)
+    (c.as_slice-2.ensures.value ∙ c.in_ok-texts.ensures.layout) (c.as_slice-3.ensures.value ∙ c.in_ok-texts.ensures.schematic) c.in_ok-top.ensures rules.short rules.found layout.short layout.found
     c.in_err-schematic.ensures.refused)
 
 pub returns-in_err-files-clause-stops : goal.returns-in_err-files-clause-stops
@@ -48,7 +48,7 @@ returns-in_err-output-clause-stops g c =
     let read = c.in_ok-schematic.ensures in
     let nl = plain_netlist c.in_ok-schematic.schematic in
     let chip = chip_of task.n task.seed _ _ _ _ (rules_seen c.in_ok-rules.rules) c.in_ok-layout.layout nl (c.as_slice.ensures.value ∙ texts.rules) (c.as_slice-2.ensures.value ∙ texts.layout)
-    (c.as_slice-3.ensures.value ∙ texts.schematic) c.in_ok-top.ensures rules.short rules.found layout.short (layout.found, layout.way ∙ c.way_of-way.ensures) read.short read.found in
+    (c.as_slice-3.ensures.value ∙ texts.schematic) c.in_ok-top.ensures rules.short rules.found layout.short layout.found read.short read.found in
     rw (e.1, e.2) (λ s. not_merged task.n task.seed (string_bytes task.prefix) s (rules_seen c.in_ok-rules.rules) c.in_ok-layout.layout nl chip _ c.in_err-output.ensures.refused)
 
 pub made_output-requires-clause-schematic : goal.made_output-requires-clause-schematic
@@ -66,6 +66,6 @@ returns-clause-ready g c =
     let read = c.in_ok-schematic.ensures in
     let nl = plain_netlist c.in_ok-schematic.schematic in
     let chip = chip_of task.n task.seed _ _ _ _ (rules_seen c.in_ok-rules.rules) c.in_ok-layout.layout nl (c.as_slice.ensures.value ∙ texts.rules) (c.as_slice-2.ensures.value ∙ texts.layout)
-    (c.as_slice-3.ensures.value ∙ texts.schematic) c.in_ok-top.ensures rules.short rules.found layout.short (layout.found, layout.way ∙ c.way_of-way.ensures) read.short read.found in
+    (c.as_slice-3.ensures.value ∙ texts.schematic) c.in_ok-top.ensures rules.short rules.found layout.short layout.found read.short read.found in
     let made = c.in_ok-output.ensures.made task.n task.seed prefix (c.in_ok-files.ensures ∙ files_so task.n task.seed prefix _ _ _ texts.rules texts.layout texts.schematic) in
     λ s. chip_ready task.n task.seed prefix s (rules_seen c.in_ok-rules.rules) c.in_ok-layout.layout nl c.in_ok-output.output chip c.compared_laws.ensures.verdicts c.compared_laws.ensures.matched made

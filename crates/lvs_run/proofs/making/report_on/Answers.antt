@@ -11,8 +11,7 @@ use Rattle.lvs_run.proofs.making.report_on.Goals as goal
 pub report_file-requires-clause-top : goal.report_file-requires-clause-top
 report_file-requires-clause-top g c κs within =
     let found = c.args.found.now in
-    let read = c.requires.read in
-    let shows = c.flat_netlist.ensures read.0 read.1 c.args.layout.now (rules_seen c.args.rules.now) (plain_netlist found.netlist) found.top found.bad.items found.text.items read.2 c.requires.rules c.requires.found in
+    let shows = c.flat_netlist.ensures c.args.layout.now (rules_seen c.args.rules.now) (plain_netlist found.netlist) found.top found.bad.items found.text.items c.requires.rules c.requires.found in
     below found.top c.args.netlist.now.circuits.items (shows.last ∙ sym c.requires.count)
 
 pub report_file-requires-clause-cells : goal.report_file-requires-clause-cells

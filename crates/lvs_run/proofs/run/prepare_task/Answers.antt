@@ -8,7 +8,6 @@ use Rattle.lvs_run.specs.Words.{Outputs, blank_files, outputs_of, paths_of, sche
 use Rattle.lvs_run.specs.Inputs.{IsOutput}
 use Rattle.lvs_run.proofs.Ready.{beside_as, reads_files, reads_none, ready_alone, ready_beside}
 use Rattle.lvs_run.proofs.Stopping.{alone_stop, same_stop, rules_stop, layout_stop, quiet_on, schematic_stop}
-use Rattle.lvs_run.proofs.Ways.{in_way}
 use Rattle.lvs_run.proofs.run.prepare_task.Goals as goal
 
 pub returns-in-Some-clause-stops : goal.returns-in-Some-clause-stops
@@ -30,15 +29,25 @@ pub returns-in_err-output-in-Layout-clause-stops : goal.returns-in_err-output-in
 returns-in_err-output-in-Layout-clause-stops g c =
     let p = paths_of c.args.task in
     let rules = c.in_ok-rule_set.ensures.found in
-    let layout = in_way _ c.in_ok-design.ensures.found (c.in_ok-design.ensures.way ∙ c.way_of.ensures) in
+    let layout = c.in_ok-design.ensures.found in
     let e = err_from_is_err_and c.from_residual-in_err-output-in-Layout.result c.from_residual-in_err-output-in-Layout.ensures.1 in
     let alone = ap (λ (o : Code). schematic_path (outputs_of o)) c.in-Layout.is ∙ reads_none c.in-Layout.outputs in
     rw (e.1, e.2) (alone_stop p _ _ _ (rules_seen c.in_ok-rule_set.rule_set) c.in_ok-design.design (ap (λ o. option_map string_bytes o) c.in-None.is) (reads_files c.args.task.outputs) alone c.in_ok-rule_set.ensures.quiet rules layout _ c.in_err-output-in-Layout.ensures.refused)
+
+pub output_of-requires-clause-layout : goal.output_of-requires-clause-layout
+output_of-requires-clause-layout g c κs within =
+    let found = c.in_ok-design.ensures.found in
+    let fits = c.run_layouts.ensures.fits found.bytes _ (rules_seen c.in_ok-rule_set.rule_set) c.in_ok-design.design found.is in fits.room
 
 pub output_of-requires-clause-apart : goal.output_of-requires-clause-apart
 output_of-requires-clause-apart g c κs within =
     let apart = ap (λ o. option_map string_bytes o) c.in-None.is in
     subst (λ (o : Code). AreApart (blank_files (outputs_of o))) c.in-Layout.is (c.requires.apart apart)
+
+pub compare-requires-clause-layout : goal.compare-requires-clause-layout
+compare-requires-clause-layout g c κs within =
+    let found = c.in_ok-design.ensures.found in
+    let fits = c.run_layouts.ensures.fits found.bytes _ (rules_seen c.in_ok-rule_set.rule_set) c.in_ok-design.design found.is in fits.room
 
 pub compare-requires-clause-apart : goal.compare-requires-clause-apart
 compare-requires-clause-apart g c κs within =
@@ -56,7 +65,7 @@ returns-in-Layout-clause-ready g c =
     let made = subst (λ (o : Outputs). IsOutput o l r c.in_ok-output-in-Layout.output) (sym same) c.in_ok-output-in-Layout.ensures.made in
     let first = c.in_ok-rule_set.ensures in
     let then = c.in_ok-design.ensures in
-    ready_alone p _ _ _ r l c.in_ok-output-in-Layout.output apart (reads_files c.args.task.outputs) first.quiet first.found first.sound (in_way _ then.found (then.way ∙ c.way_of.ensures)) c.covers_flat.ensures c.flat_netlist.ensures made
+    ready_alone p _ _ _ r l c.in_ok-output-in-Layout.output apart (reads_files c.args.task.outputs) first.quiet first.found first.sound then.found c.run_layouts.ensures.fits c.covers_flat.ensures c.flat_netlist.ensures made
 
 pub returns-clause-ready : goal.returns-clause-ready
 returns-clause-ready g c =
@@ -70,7 +79,7 @@ returns-clause-ready g c =
     let made = beside_as (outputs_of c.args.task.outputs) _ same c.in_ok-made-in-Report.ensures.made in
     let first = c.in_ok-rule_set.ensures in
     let then = c.in_ok-design.ensures in
-    ready_beside p _ _ _ _ r l path c.in_ok-made-in-Report.made apart (reads_files c.args.task.outputs) beside first.quiet then.quiet first.found first.sound (in_way _ then.found (then.way ∙ c.way_of.ensures)) c.covers_flat.ensures c.flat_netlist.ensures c.compared_laws.ensures.verdicts c.compared_laws.ensures.matched made
+    ready_beside p _ _ _ _ r l path c.in_ok-made-in-Report.made apart (reads_files c.args.task.outputs) beside first.quiet then.quiet first.found first.sound then.found c.run_layouts.ensures.fits c.covers_flat.ensures c.flat_netlist.ensures c.compared_laws.ensures.verdicts c.compared_laws.ensures.matched made
 
 pub returns-in_err-made-in-Report-clause-stops : goal.returns-in_err-made-in-Report-clause-stops
 returns-in_err-made-in-Report-clause-stops g c =
@@ -80,7 +89,7 @@ returns-in_err-made-in-Report-clause-stops g c =
     let first = c.in_ok-rule_set.ensures in
     let then = c.in_ok-design.ensures in
     let e = err_from_is_err_and c.from_residual-in_err-made-in-Report.result c.from_residual-in_err-made-in-Report.ensures.1 in
-    rw (e.1, e.2) (schematic_stop p _ _ _ _ (rules_seen c.in_ok-rule_set.rule_set) c.in_ok-design.design (string_bytes c.in-Report.schematic) _ apart (reads_files c.args.task.outputs) beside first.quiet then.quiet first.found (in_way _ then.found (then.way ∙ c.way_of.ensures)) c.in_err-made-in-Report.ensures.refused)
+    rw (e.1, e.2) (schematic_stop p _ _ _ _ (rules_seen c.in_ok-rule_set.rule_set) c.in_ok-design.design (string_bytes c.in-Report.schematic) _ apart (reads_files c.args.task.outputs) beside first.quiet then.quiet first.found then.found c.in_err-made-in-Report.ensures.refused)
 
 pub returns-in-Layout-clause-quiet : goal.returns-in-Layout-clause-quiet
 returns-in-Layout-clause-quiet g c = quiet_on _ _ _ c.in_ok-rule_set.ensures.quiet c.in_ok-design.ensures.quiet

@@ -3,7 +3,7 @@ use Rattle.shapes_file.proofs.one.one_file.Goals as goal
 
 pub returns : goal.returns
 returns c = record {
-  file = one_file c.one_layout.ensures.layout c.one_list.ensures;
-  wide = one_wide c.one_layout.ensures.layout c.one_list.ensures;
-  none = no_file c.one_layout.ensures.layout c.one_list.ensures;
+  file = one_file c.one_list.ensures;
+  wide = one_wide c.one_list.ensures;
+  none = no_file c.one_list.ensures;
 }

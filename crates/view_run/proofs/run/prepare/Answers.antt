@@ -19,7 +19,7 @@ returns-in-Err-schematic_of-clause-quiet g c = quiet_on _ _ _ (quiet_on _ _ _ c.
 
 pub returns-in-Err-schematic_of-clause-stops : goal.returns-in-Err-schematic_of-clause-stops
 returns-in-Err-schematic_of-clause-stops g c =
-    schematic_stop (asked_of c.args.task.now) _ _ (rules_seen c.in-Ok.rules) c.requires.apart c.in-Ok.ensures.found _ c.in-Ok-layout_of.layout c.in-Ok-layout_of.ensures.found (c.in-Ok-layout_of.ensures.way ∙ c.way_of.ensures) _ _ _ c.run_stop-in-Err-schematic_of.ensures
+    schematic_stop (asked_of c.args.task.now) _ _ (rules_seen c.in-Ok.rules) c.requires.apart c.in-Ok.ensures.found _ c.in-Ok-layout_of.layout c.in-Ok-layout_of.ensures.found _ _ _ c.run_stop-in-Err-schematic_of.ensures
     c.in-Err-schematic_of.ensures.refused
 
 pub make_view-requires-clause-schematic : goal.make_view-requires-clause-schematic
@@ -33,7 +33,7 @@ returns-in_err-made-clause-quiet g c = quiet_on _ _ _ (quiet_on _ _ _ c.in-Ok.en
 pub returns-in_err-made-clause-stops : goal.returns-in_err-made-clause-stops
 returns-in_err-made-clause-stops g c =
     let e = err_from_is_err_and c.from_residual.result c.from_residual.ensures.1 in
-    rw (e.1, e.2) (made_stop (asked_of c.args.task.now) _ _ (rules_seen c.in-Ok.rules) c.requires.apart c.in-Ok.ensures.found _ c.in-Ok-layout_of.layout c.in-Ok-layout_of.ensures.found (c.in-Ok-layout_of.ensures.way ∙ c.way_of.ensures) _
+    rw (e.1, e.2) (made_stop (asked_of c.args.task.now) _ _ (rules_seen c.in-Ok.rules) c.requires.apart c.in-Ok.ensures.found _ c.in-Ok-layout_of.layout c.in-Ok-layout_of.ensures.found _
     (plain_netlist c.in-Ok-schematic_of.schematic) c.in-Ok-schematic_of.ensures.found _ c.in_err-made.ensures.refused)
 
 pub returns-in_err-output-clause-quiet : goal.returns-in_err-output-clause-quiet
@@ -45,6 +45,6 @@ returns-clause-quiet g c = quiet_on _ _ _ (quiet_on _ _ _ c.in-Ok.ensures.quiet 
 pub returns-clause-ready : goal.returns-clause-ready
 returns-clause-ready g c =
     let told = is_some_map string_bytes c.args.task.now.page ∙ sym c.is_some-paged.ensures in
-    is_ready (asked_of c.args.task.now) _ _ (rules_seen c.in-Ok.rules) c.requires.apart c.in-Ok.ensures.found _ c.in-Ok-layout_of.layout c.in-Ok-layout_of.ensures.found (c.in-Ok-layout_of.ensures.way ∙ c.way_of.ensures) _
+    is_ready (asked_of c.args.task.now) _ _ (rules_seen c.in-Ok.rules) c.requires.apart c.in-Ok.ensures.found _ c.in-Ok-layout_of.layout c.in-Ok-layout_of.ensures.found _
     (plain_netlist c.in-Ok-schematic_of.schematic) c.in-Ok-schematic_of.ensures.found c.in_ok-made.made.verdict _ _ _ c.in_ok-made.made.text.items c.in_ok-made.made.line.items _ _ told
     c.in_ok-made.ensures.made c.in_ok-output.ensures.files c.in_ok-output.ensures.line c.in_ok-output.ensures.verdict

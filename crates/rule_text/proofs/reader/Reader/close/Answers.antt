@@ -1,4 +1,3 @@
-use Rattle.std.proofs.Common.{rules, ◌≡◌}
 use Rattle.rule_text.proofs.SoundLemmas.{sound}
 use Rattle.rule_text.specs.Seen.{rules_seen}
 use Rattle.rule_text.proofs.reader.Reader.close.Goals as goal

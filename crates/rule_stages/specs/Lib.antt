@@ -1,0 +1,5 @@
+pub mod Selections
+pub mod Depths
+pub mod Stages
+pub mod Marks
+pub mod StageRules

@@ -1,0 +1,6 @@
+pub mod Stages
+pub mod Agreeing
+pub mod Cells
+pub mod Laws
+pub mod Joined
+pub mod OneDepth
