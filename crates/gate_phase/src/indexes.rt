@@ -173,9 +173,9 @@ impl<'a> IndexedLayers<'a> {
         ensures table { IfOk result (λ x. x.table ≡ layers.now) }
         ensures reaches { IfOk result (λ x. x.reaches ≡ reaches rules.now.names.items) }
     {
-        let marks = marked_names(alloc, rules.names.len(), indexed)?;
-        let indexes = all_indexes(alloc, design, layers, &marks)?;
         let names = rules.names.as_slice();
+        let marks = marked_names(alloc, names.len(), indexed)?;
+        let indexes = all_indexes(alloc, design, layers, &marks)?;
         let reaches = reaches(alloc, names)?;
         Ok(IndexedLayers {
             layers,

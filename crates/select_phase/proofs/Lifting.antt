@@ -1,5 +1,5 @@
 -- What goes up through the elements of an array, visit by visit.
-use Rattle.std.proofs.Common.{◌≡◌, ◌⊎◌, ◌↔◌, inl, inr, ℕ, pos, Option, Some, None, ◌+◌, ◌<◌, ◌≤◌, true, ◌&&◌, ◌||◌, List, get_or, length, map, slice_get, slice_index_or, refl, sym, ◌∙◌, ap, subst, arith}
+use Rattle.std.proofs.Common.{◌≡◌, ◌⊎◌, ◌↔◌, inl, inr, ℕ, pos, Option, Some, None, ◌+◌, ◌<◌, ◌≤◌, true, ◌&&◌, List, get_or, length, map, slice_get, slice_index_or, refl, sym, ◌∙◌, ap, subst, arith}
 use Rattle.std.proofs.Math.Decide.{ℕ_discrete}
 use Rattle.std.proofs.lemmas.Bool.{and_from, and_parts, or_cases, or_right}
 use Rattle.std.proofs.lemmas.List.{get_or_default}
@@ -19,7 +19,7 @@ use Rattle.flat_layout.specs.Layers.{IsLocal, reach}
 use Rattle.flat_layout.specs.Layout as flat
 use Rattle.cell_graph.specs.declared.cells.Place.{Place}
 use Rattle.cell_graph.specs.Grown.{IsInGrown}
-use Rattle.cell_graph.specs.Linked.{HullIsSound, IsSound, IsStep, Linked, cell_at, hull_of, motion_at, places_at, plain, reference}
+use Rattle.cell_graph.specs.Linked.{HullIsSound, IsSound, Linked, cell_at, hull_of, motion_at, places_at, plain, reference}
 use Rattle.cell_graph.proofs.Bridge.{hull_sound, inside_has, placed_of, reference_at, step_of}
 use Rattle.cell_graph.proofs.Elements.{number_of}
 use Rattle.cell_graph.proofs.Growing.{grown_frame}

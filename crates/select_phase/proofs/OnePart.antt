@@ -1,5 +1,5 @@
 -- One part, sorted.
-use Rattle.std.proofs.Common.{◌≡◌, ◌⊎◌, ◌↔◌, inl, inr, ℕ, ◌++◌, ◌||◌, true, List, sym, ◌∙◌, ap, subst}
+use Rattle.std.proofs.Common.{◌≡◌, ◌⊎◌, ◌↔◌, inl, inr, ℕ, ◌++◌, ◌||◌, List, sym, ◌∙◌, ap, subst}
 use Rattle.std.specs.List.{All}
 use Rattle.std.proofs.lemmas.Bool.{or_cases, or_left, or_right}
 use Rattle.std.proofs.lemmas.List.Elements.{All-append}
@@ -15,7 +15,7 @@ use Rattle.select_laws.specs.Layered.{IsOwnSelected}
 use Rattle.select_laws.specs.Rest.{ArePartedSquares, IsRest}
 use Rattle.select_laws.specs.Selects.{Ask, Interacting, Overlapping, Inside, Outside, WithArea, Has, OnSide, Select, sight}
 use Rattle.select_phase.specs.Beside.{IfOther, IsBeside}
-use Rattle.select_phase.specs.Sorted.{HaveRects, IsCalmPart, IsPartAt, SortsPart}
+use Rattle.select_phase.specs.Sorted.{IsCalmPart, IsPartAt, SortsPart}
 use Rattle.select_phase.specs.declared.sorting.Sorted.{Sorted}
 use Rattle.select_phase.proofs.Regions.{own_selected, torn_at, whole_at}
 

@@ -1,5 +1,5 @@
 -- What is known at a ready selection.
-use Rattle.std.proofs.Common.{◌≡◌, ◌↔◌, ℕ, ◌+◌, ◌<◌, ◌≤◌, ◌^◌, Bool, true, List, [], Option, Some, get_or, length, slice_get, refl, sym, ◌∙◌, ap, subst, arith}
+use Rattle.std.proofs.Common.{◌≡◌, ◌↔◌, ℕ, ◌<◌, ◌≤◌, ◌^◌, Bool, true, List, [], Some, get_or, length, refl, sym, ◌∙◌, subst, arith}
 use Rattle.std.specs.List.{All}
 use Rattle.base_laws.proofs.Items.{one_entry}
 use Rattle.std.specs.Prelude.{IsSome}
@@ -25,15 +25,15 @@ use Rattle.gate_phase.proofs.Reaching.{name_most}
 use Rattle.gate_shapes.specs.Sets.{in_set}
 use Rattle.select_laws.specs.Rest.{ArePartedSquares, IsCandidate}
 use Rattle.select_laws.specs.Selects.{Select, sight}
-use Rattle.select_phase.specs.Selections.{IsReadySelection, select_at, trees_at}
+use Rattle.select_phase.specs.Selections.{IsReadySelection, meant_at, trees_at}
 use Rattle.select_phase.specs.Sorted.{IsCalmPart, IsPartAt}
-use Rattle.select_phase.specs.declared.selection.Selection.{Selection}
+use Rattle.rule_text.specs.declared.rules.SelectRule.{SelectRule}
 use Rattle.select_phase.proofs.Calmness.{calm_zone}
 use Rattle.select_phase.proofs.Zoning.{both_reach, candidates_held, sight_margin, sight_reach, sight_zone}
 
-module _ (site : Site) (s : Selection) (sound : IsSound site.design.now) (ready : IsReadySelection site s) where
+module _ (site : Site) (s : SelectRule) (sound : IsSound site.design.now) (ready : IsReadySelection site s) where
   abbrev x : Select
-  x = select_at site s
+  x = meant_at site s
 
   abbrev n : ℕ
   n = (sight x).reach

@@ -1,5 +1,5 @@
 -- Parts of the candidates: regions of the cell's own, or squares that go up.
-use Rattle.std.proofs.Common.{◌≡◌, ◌⊎◌, ◌↔◌, inl, inr, ℕ, List}
+use Rattle.std.proofs.Common.{◌↔◌, ℕ, List}
 use Rattle.flat_layout.specs.Gates.{Geometry}
 use Rattle.flat_layout.specs.Layers.{InFlat, IsKept}
 use Rattle.flat_layout.specs.Layout.{Design, IsReached}
@@ -13,8 +13,8 @@ use Rattle.gate_search.specs.Gather.{AreMet}
 use Rattle.gate_shapes.specs.Sets.{in_set}
 use Rattle.select_laws.specs.Layered.{IsOwnSelected}
 use Rattle.select_laws.specs.Rest.{IsRest, IsCandidate, ArePartedSquares}
-use Rattle.select_laws.specs.Selects.{Ask, Interacting, Overlapping, Inside, Outside, WithArea, Has, OnSide, Select, sight, region_at, IsSelected}
-use Rattle.select_laws.specs.Whole.{IsWhole, RegionAt}
+use Rattle.select_laws.specs.Selects.{Ask, Interacting, Overlapping, Inside, Outside, WithArea, Has, OnSide, Select, sight, region_at}
+use Rattle.select_laws.specs.Whole.{IsWhole}
 use Rattle.select_laws.proofs.Choice.{reads_region, reads_other, on_side}
 use Rattle.select_laws.proofs.Rest.{candidate_law, kept_flat, rest_law}
 use Rattle.select_laws.proofs.Staged.{close_same, has_same}

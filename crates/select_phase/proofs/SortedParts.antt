@@ -1,20 +1,18 @@
 -- The parts of the candidates, sorted one by one, are what the cell finds.
-use Rattle.std.proofs.Common.{◌≡◌, ◌⊎◌, ◌↔◌, inl, inr, ℕ, ◌+◌, ◌<◌, ◌≤◌, true, List, [], Option, Some, length, slice_get, sym, ◌∙◌, ap, subst, arith}
+use Rattle.std.proofs.Common.{◌≡◌, ◌⊎◌, ◌↔◌, inl, inr, ℕ, ◌+◌, ◌<◌, ◌≤◌, true, List, [], Option, Some, length, slice_get, sym, ◌∙◌, subst, arith}
 use Rattle.std.proofs.Math.Decide.{ℕ_discrete}
 use Rattle.std.proofs.lemmas.Bool.{false≢true}
 use Rattle.std.proofs.lemmas.Option.{slice_get_within}
 use Rattle.base_laws.proofs.Items.{one_entry}
-use Rattle.flat_layout.specs.Gates.{Geometry}
 use Rattle.flat_layout.specs.Layers.{IsDecided}
-use Rattle.flat_layout.specs.Layout.{Design, Place, IsPlaced, IsReached}
-use Rattle.flat_layout.specs.Parts.{Joint}
+use Rattle.flat_layout.specs.Layout.{Design, IsReached}
 use Rattle.geo_base.specs.declared.shapes.Rect.{Rect}
 use Rattle.geo_base.specs.declared.shapes.Square.{Square}
 use Rattle.rect_sets.specs.Rects.{covers}
 use Rattle.gate_shapes.specs.PartLists.{AreRegions}
 use Rattle.gate_shapes.specs.Sets.{in_set}
 use Rattle.select_laws.specs.Layered.{IsOwnSelected}
-use Rattle.select_laws.specs.Rest.{IsCandidate, IsRest, ArePartedSquares, AreTold}
+use Rattle.select_laws.specs.Rest.{IsCandidate, IsRest, ArePartedSquares}
 use Rattle.select_laws.specs.Selects.{Select, sight}
 use Rattle.select_laws.specs.Whole.{IsWhole}
 use Rattle.select_laws.proofs.Choice.{reads_region}

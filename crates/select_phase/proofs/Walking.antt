@@ -22,9 +22,9 @@ use Rattle.select_laws.specs.Whole.{ArePartedRegions}
 use Rattle.select_laws.proofs.Choice.{reads_region}
 use Rattle.select_laws.proofs.Rest.{parted_rest}
 use Rattle.select_phase.specs.Found.{AreFound, AreFoundBelow, IsCellSelection}
-use Rattle.select_phase.specs.Selections.{IsKnown, select_of}
+use Rattle.rule_stages.specs.Selections.{IsKnown, select_of}
 use Rattle.select_phase.specs.declared.cell.CellSelection.{CellSelection}
-use Rattle.select_phase.specs.declared.selection.Selection.{Selection}
+use Rattle.rule_text.specs.declared.rules.SelectRule.{SelectRule}
 
 abbrev nones : ℕ → List (Option CellSelection)
 nones n = replicate n None
@@ -99,7 +99,7 @@ module _ (d : Linked) (x : Select) (sound : IsSound d) where
       (λ cell reached. (some_and (IsCellSelection (plain d) x cell) (entry found cell) (h cell reached)).2.told)
 
 -- of each kept square of a selection's regions' layer it is known whether its cell holds it itself
-pub squares_of : (d : Design) (r : Rules) (layers : LayersOf) (s : Selection) → AreLayersOf d r layers → rules.IsSound r → IsKnown (formulas r.names) s → (cell : ℕ) → IsReached d cell → ArePartedSquares d (sight (select_of (formulas r.names) s)) cell
+pub squares_of : (d : Design) (r : Rules) (layers : LayersOf) (s : SelectRule) → AreLayersOf d r layers → rules.IsSound r → IsKnown (formulas r.names) s → (cell : ℕ) → IsReached d cell → ArePartedSquares d (sight (select_of (formulas r.names) s)) cell
 squares_of d r layers s right ruled known cell reached q kept =
     let long = count_behind [] r.names in
     let region = known.region in

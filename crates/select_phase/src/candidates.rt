@@ -18,15 +18,15 @@ ghost use Rattle.select_laws.specs.Rest.{IsCandidate};
 ghost use Rattle.select_laws.specs.Selects.{sight};
 ghost use Rattle.select_phase.specs.Found.{AreFoundBelow, rest_in};
 ghost use Rattle.select_phase.specs.Lifted.{Lands, Lifts};
-ghost use Rattle.select_phase.specs.Selections.{IsReadySelection, select_at};
+ghost use Rattle.select_phase.specs.Selections.{IsReadySelection, meant_at};
 
 use crate::cell::CellSelection;
-use crate::selection::Selection;
 use cell_context::{grown, place_visits, push_images};
 use cell_graph::Place;
 use gate_phase::{Site, plane};
 use geo_base::Rect;
 use rect_sets::RectSet;
+use rule_text::SelectRule;
 use std::alloc::{AllocError, Global};
 
 // Adds the images of a placed cell's squares through all elements of an array; where it has none no
@@ -99,15 +99,15 @@ fn push_rest(
 pub fn candidates(
     alloc: Global,
     site: &Site,
-    selection: &Selection,
+    selection: &SelectRule,
     below: &[Option<CellSelection>],
 ) -> Result<RectSet, AllocError>
     requires ready { IsReadySelection site.now selection.now }
     requires count { length below.now ≡ length site.now.design.now.cells }
-    requires below { AreFoundBelow (layout_at site.now) (select_at site.now selection.now)
+    requires below { AreFoundBelow (layout_at site.now) (meant_at site.now selection.now)
         site.now.cell below.now }
     ensures { IfOk result (λ r. (q : Square) → in_set r q ↔ IsCandidate (layout_at site.now) Corners
-        (sight (select_at site.now selection.now)) site.now.cell q) }
+        (sight (meant_at site.now selection.now)) site.now.cell q) }
 {
     site.design.sound();
     let reach = site.layers.reach(selection.region);

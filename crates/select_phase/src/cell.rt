@@ -3,14 +3,14 @@
 ghost use Rattle.std.specs.Prelude.{◌≡◌, length, IfOk};
 ghost use Rattle.gate_phase.specs.Site.{layout_at};
 ghost use Rattle.select_phase.specs.Found.{AreFoundBelow, IsCellSelection};
-ghost use Rattle.select_phase.specs.Selections.{IsReadySelection, select_at};
+ghost use Rattle.select_phase.specs.Selections.{IsReadySelection, meant_at};
 
 use crate::candidates::candidates;
-use crate::selection::Selection;
 use crate::sorting::{Sorted, sort_part};
 use gate_phase::Site;
 use gate_shapes::corner_parts;
 use rect_sets::RectSet;
+use rule_text::SelectRule;
 use std::alloc::{AllocError, Global};
 
 /// The squares of a cell's own regions that a selection chooses, and those of the regions' layer
@@ -26,14 +26,14 @@ pub struct CellSelection {
 pub fn cell_selection(
     alloc: Global,
     site: &Site,
-    selection: &Selection,
+    selection: &SelectRule,
     below: &[Option<CellSelection>],
 ) -> Result<CellSelection, AllocError>
     requires ready { IsReadySelection site.now selection.now }
     requires count { length below.now ≡ length site.now.design.now.cells }
-    requires below { AreFoundBelow (layout_at site.now) (select_at site.now selection.now)
+    requires below { AreFoundBelow (layout_at site.now) (meant_at site.now selection.now)
         site.now.cell below.now }
-    ensures { IfOk result (IsCellSelection (layout_at site.now) (select_at site.now selection.now)
+    ensures { IfOk result (IsCellSelection (layout_at site.now) (meant_at site.now selection.now)
         site.now.cell) }
 {
     site.design.sound();

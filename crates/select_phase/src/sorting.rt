@@ -9,18 +9,19 @@ ghost use Rattle.cell_graph.specs.Linked.{IsRectWithin};
 ghost use Rattle.gate_phase.specs.Own.{IsHeldPart};
 ghost use Rattle.gate_phase.specs.Site.{layout_at};
 ghost use Rattle.gate_shapes.specs.Sets.{in_set};
-ghost use Rattle.region_asks.specs.Asks.{ask_of};
+ghost use Rattle.rule_stages.specs.Selections.{ask_of};
 ghost use Rattle.select_laws.specs.Selects.{Has, OnSide, sight};
 ghost use Rattle.select_phase.specs.Beside.{IsBeside};
-ghost use Rattle.select_phase.specs.Selections.{IsReadySelection, select_at, side_of};
+ghost use Rattle.rule_stages.specs.Selections.{side_of};
+ghost use Rattle.select_phase.specs.Selections.{IsReadySelection, meant_at};
 ghost use Rattle.select_phase.specs.Sorted.{HaveRects, IsCalmPart, IsPartAt, SortsPart};
 
-use crate::selection::Selection;
 use deep_tables::ZoneKey;
 use gate_phase::{Site, close_to, kept_in, misses};
 use geo_base::Rect;
 use rect_sets::RectSet;
-use region_asks::{Ask, has};
+use region_asks::has;
+use rule_text::{Ask, SelectRule};
 use std::alloc::{AllocError, Global};
 
 /// The rectangles of the chosen regions, and of the parts that go up.
@@ -34,12 +35,12 @@ pub struct Sorted {
 fn beside(
     alloc: Global,
     site: &Site,
-    selection: &Selection,
+    selection: &SelectRule,
     close: &RectSet,
 ) -> Result<RectSet, AllocError>
     requires ready { IsReadySelection site.now selection.now }
     requires windows { All (IsRectWithin (2 ^ 39)) close.now }
-    ensures { IfOk result (IsBeside (layout_at site.now) (select_at site.now selection.now)
+    ensures { IfOk result (IsBeside (layout_at site.now) (meant_at site.now selection.now)
         site.now.cell close.now) }
 {
     if let Ask::WithArea { .. } = selection.ask {
@@ -63,7 +64,7 @@ fn beside(
 fn is_chosen(
     alloc: Global,
     site: &Site,
-    selection: &Selection,
+    selection: &SelectRule,
     part: &RectSet,
     close: &RectSet,
 ) -> Result<bool, AllocError>
@@ -71,7 +72,7 @@ fn is_chosen(
     requires windows { All (IsRectWithin (2 ^ 39)) close.now }
     requires close { (q : Square) → in_set close.now q ↔ IsCloseTo (in_set part.now) q }
     ensures { IfOk result (λ told. (near : List Rectangle) × IsBeside (layout_at site.now)
-        (select_at site.now selection.now) site.now.cell close.now near × ((told ≡ true)
+        (meant_at site.now selection.now) site.now.cell close.now near × ((told ≡ true)
         ↔ OnSide (side_of selection.now.others) (Has (ask_of selection.now.ask) (in_set part.now)
         (in_set near)))) }
 {
@@ -84,17 +85,17 @@ fn is_chosen(
 fn is_calm(
     alloc: Global,
     site: &Site,
-    selection: &Selection,
+    selection: &SelectRule,
     part: &RectSet,
     close: &RectSet,
 ) -> Result<bool, AllocError>
     requires ready { IsReadySelection site.now selection.now }
-    requires held { IsHeldPart (sight (select_at site.now selection.now)).reach
+    requires held { IsHeldPart (sight (meant_at site.now selection.now)).reach
         site.now.design.now site.now.cell part.now }
     requires windows { All (IsRectWithin (2 ^ 39)) close.now }
     requires close { (q : Square) → in_set close.now q ↔ IsCloseTo (in_set part.now) q }
     ensures { IfOk result (λ told. (told ≡ true) ↔ IsCalmPart (layout_at site.now)
-        (select_at site.now selection.now) site.now.cell part.now) }
+        (meant_at site.now selection.now) site.now.cell part.now) }
 {
     site.design.sound();
     let zone = site
@@ -110,15 +111,15 @@ fn is_calm(
 pub fn sort_part(
     alloc: Global,
     site: &Site,
-    selection: &Selection,
+    selection: &SelectRule,
     part: &RectSet,
     sorted: &mut Sorted,
 ) -> Result<(), AllocError>
     requires ready { IsReadySelection site.now selection.now }
-    requires part { (s : Square) × IsPartAt (layout_at site.now) (select_at site.now selection.now)
+    requires part { (s : Square) × IsPartAt (layout_at site.now) (meant_at site.now selection.now)
         site.now.cell part.now s }
     requires rects { HaveRects sorted.old }
-    ensures sorts { OnOk result (SortsPart (layout_at site.now) (select_at site.now selection.now)
+    ensures sorts { OnOk result (SortsPart (layout_at site.now) (meant_at site.now selection.now)
         site.now.cell part.now sorted.old sorted.new) }
     ensures rects { OnOk result (HaveRects sorted.new) }
 {

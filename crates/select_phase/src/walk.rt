@@ -13,14 +13,13 @@ ghost use Rattle.select_laws.specs.Selects.{sight};
 ghost use Rattle.select_laws.specs.Whole.{ArePartedRegions};
 ghost use Rattle.flat_layout.specs.Parts.{Corners};
 ghost use Rattle.select_phase.specs.Found.{AreFound};
-ghost use Rattle.select_phase.specs.Selections.{IsKnown, select_of};
+ghost use Rattle.rule_stages.specs.Selections.{IsKnown, select_of};
 
 use crate::cell::{CellSelection, cell_selection};
-use crate::selection::Selection;
 use cell_graph::Design;
 use deep_tables::Zones;
 use gate_phase::{IndexedLayers, Site};
-use rule_text::RuleSet;
+use rule_text::{RuleSet, SelectRule};
 use std::alloc::{AllocError, Global};
 
 // Nothing yet for each of so many cells.
@@ -42,7 +41,7 @@ pub fn find_selection<'a>(
     rules: &'a RuleSet,
     zones: &'a Zones,
     layers: &'a IndexedLayers<'a>,
-    selection: &Selection,
+    selection: &SelectRule,
 ) -> Result<Vec<Option<CellSelection>>, AllocError>
     requires rules { IsSound (rules_seen rules.now) }
     requires way { design.now.way ≡ Disturbed }

@@ -12,7 +12,7 @@ use Rattle.gate_phase.specs.Site.{layout_at}
 use Rattle.gate_phase.proofs.Keeping.{local_pieces, one_layer}
 use Rattle.gate_shapes.specs.Sets.{in_set}
 use Rattle.select_phase.specs.Found.{rest_in}
-use Rattle.select_phase.specs.Selections.{select_at}
+use Rattle.select_phase.specs.Selections.{meant_at}
 use Rattle.select_phase.proofs.Lifting.{are_candidates, more_lifted, no_place, none_lifted, rest_held}
 use Rattle.select_phase.proofs.Readiness.{region_locals}
 use Rattle.select_phase.proofs.candidates.candidates.Goals as goal
@@ -22,7 +22,7 @@ local-local-requires c = let l = region_locals c.args.site.now c.args.selection.
 
 pub loop-place-init : goal.loop-place-init
 loop-place-init c =
-    let site = c.args.site.now in let x = select_at site c.args.selection.now in
+    let site = c.args.site.now in let x = meant_at site c.args.selection.now in
     let layer = c.local-local.result.now in
     let l = region_locals site c.args.selection.now c.sound.ensures c.requires.ready site.cell c.requires.ready.site.reached in
     let is = subst (IsLocalLayer (layout_at site) x.region site.cell) (one_layer (layer_of site.layers.now.table site.cell c.args.selection.now.region) l.0 layer l.1 c.local-local.ensures) l.2 in
@@ -48,7 +48,7 @@ push_rest-requires-clause-place c = (
 
 pub push_rest-requires-clause-held : goal.push_rest-requires-clause-held
 push_rest-requires-clause-held c =
-    let site = c.args.site.now in let d = site.design.now in let x = select_at site c.args.selection.now in
+    let site = c.args.site.now in let d = site.design.now in let x = meant_at site c.args.selection.now in
     let l = region_locals site c.args.selection.now c.sound.ensures c.requires.ready site.cell c.requires.ready.site.reached in
     let p = slice_index_or c.places-place-items.result.now c.loop-place.place-index no_place in
     let there = item_at c.places-place-items.result.now (places_at (cell_at d site.cell)) c.loop-place.place-index no_place c.places-place-items.ensures c.loop-place-test.true in
@@ -69,5 +69,5 @@ pub returns : goal.returns
 returns c = λ q.
     let site = c.args.site.now in let d = site.design.now in let places = places_at (cell_at d site.cell) in
     let end : length places ≤ c.loop-place.place-index = subst (λ l. length l ≤ c.loop-place.place-index) c.places-place-items.ensures c.loop-place-test.false in
-    let law = are_candidates d (select_at site c.args.selection.now) site.cell c.sound.ensures c.args.below.now c.requires.below c.in_ok-out.out.items c.loop-place.out.items c.loop-place.invariant.local c.loop-place.place-index end c.loop-place.invariant.lifted q in
+    let law = are_candidates d (meant_at site c.args.selection.now) site.cell c.sound.ensures c.args.below.now c.requires.below c.in_ok-out.out.items c.loop-place.out.items c.loop-place.invariant.local c.loop-place.place-index end c.loop-place.invariant.lifted q in
     ((λ e. law.0 (sym (c.in_ok-set.ensures q) ∙ e)), (λ k. c.in_ok-set.ensures q ∙ law.1 k))

@@ -1,7 +1,6 @@
-use Rattle.std.proofs.Common.{◌≡◌, ◌≤◌, ◌^◌, true, List, [], Option, Some, None, get_or, arith, sym, ◌∙◌, ap, subst}
+use Rattle.std.proofs.Common.{◌≡◌, ◌^◌, true, Option, Some, None, get_or, arith, sym, ◌∙◌, subst}
 use Rattle.geo_base.specs.Rects.{has}
 use Rattle.geo_base.specs.declared.shapes.Rect.{Rect}
-use Rattle.geo_base.specs.declared.shapes.Square.{Square}
 use Rattle.cell_graph.specs.Grown.{IsInGrown}
 use Rattle.cell_graph.specs.Linked.{HullIsSound, IsFrame}
 use Rattle.cell_graph.proofs.Bridge.{hull_sound, lower, reference_at}
@@ -11,7 +10,7 @@ use Rattle.cell_context.proofs.Visiting.{wider_rect}
 use Rattle.gate_phase.proofs.Holding.{held_near}
 use Rattle.gate_phase.proofs.Results.{on_ok}
 use Rattle.gate_shapes.specs.Sets.{in_set}
-use Rattle.select_phase.specs.Found.{rest_in, rest_of}
+use Rattle.select_phase.specs.Found.{rest_of}
 use Rattle.select_phase.specs.Lifted.{Lifts}
 use Rattle.select_phase.specs.declared.cell.CellSelection.{CellSelection}
 use Rattle.select_phase.proofs.Lifting.{lands_held, there_found}

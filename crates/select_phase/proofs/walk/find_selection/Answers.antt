@@ -4,7 +4,7 @@ use Rattle.cell_graph.specs.Linked.{plain}
 use Rattle.rule_layers.specs.Formulas.{formulas}
 use Rattle.rule_text.specs.Seen.{rules_seen}
 use Rattle.select_phase.specs.Found.{AreFoundBelow, IsCellSelection}
-use Rattle.select_phase.specs.Selections.{select_of}
+use Rattle.rule_stages.specs.Selections.{select_of}
 use Rattle.select_phase.specs.declared.cell.CellSelection.{CellSelection}
 use Rattle.select_phase.proofs.Walking.{AreFoundTo, AreNoneElse, below_of, found_all, found_more, none_still, regions_parted, squares_of}
 use Rattle.select_phase.proofs.walk.find_selection.Goals as goal

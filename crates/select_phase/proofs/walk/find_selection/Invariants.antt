@@ -1,6 +1,6 @@
 use Rattle.std.proofs.Common.{◌≡◌, length}
 use Rattle.rule_layers.specs.Formulas.{formulas}
-use Rattle.select_phase.specs.Selections.{select_of}
+use Rattle.rule_stages.specs.Selections.{select_of}
 use Rattle.select_phase.proofs.Walking.{AreFoundTo, AreNoneElse}
 use Rattle.select_phase.proofs.walk.find_selection.Given as goal
 
