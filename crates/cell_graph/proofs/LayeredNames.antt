@@ -50,11 +50,11 @@ abbrev first_of : Bool → List Rect → List Rect → List Rect
 first_of b set rest = if b then set else rest
 
 -- past a layer of another key
-own_past : (l : OwnLayer) (layers : List OwnLayer) (key : LayerKey) → is_same_key l.key key ≡ false → own_rects (l ∷ layers) key ≡ own_rects layers key
+pub own_past : (l : OwnLayer) (layers : List OwnLayer) (key : LayerKey) → is_same_key l.key key ≡ false → own_rects (l ∷ layers) key ≡ own_rects layers key
 own_past l layers key e = ap (λ (b : Bool). first_of b l.set (own_rects layers key)) e
 
-own_here : (l : OwnLayer) (layers : List OwnLayer) (key : LayerKey) → l.key ≡ key → own_rects (l ∷ layers) key ≡ l.set
-own_here l layers key e = ap (λ (b : Bool). first_of b l.set (own_rects layers key)) (subst (λ k. is_same_key l.key k ≡ true) e (key_own l.key))
+pub own_here : (l : OwnLayer) (layers : List OwnLayer) (key : LayerKey) → is_same_key l.key key ≡ true → own_rects (l ∷ layers) key ≡ l.set
+own_here l layers key e = ap (λ (b : Bool). first_of b l.set (own_rects layers key)) e
 
 own_none : (layers : List OwnLayer) (key : LayerKey) → has_key (layer_keys layers) key ≡ false → own_rects layers key ≡ []
 own_none [] key e = refl
@@ -95,18 +95,18 @@ module _ (keys : List LayerKey) (key : LayerKey) (more : List OwnLayer) where
         | inr g ↦ g
       ]
 
+pub key_listed : (layers : List OwnLayer) (i : ℕ) (l : OwnLayer) → slice_get layers i ≡ Some l → IsListed l.key (layer_keys layers)
+key_listed layers i l at = listed (layer_keys layers) i l.key (map_to (λ (v : OwnLayer). v.key) layers i l at)
+
 -- of layers of different keys, each has its set
-own_at : (layers : List OwnLayer) (i : ℕ) (l : OwnLayer) → AreApart (layer_keys layers) → slice_get layers i ≡ Some l → own_rects layers l.key ≡ l.set
+pub own_at : (layers : List OwnLayer) (i : ℕ) (l : OwnLayer) → AreApart (layer_keys layers) → slice_get layers i ≡ Some l → own_rects layers l.key ≡ l.set
 own_at [] i l apart at = let f : None ≡ Some l = at in absurd (let z : ⊥ = cc in z)
-own_at (k ∷ layers) zero l apart at = let e : k ≡ l = cc in own_here k layers l.key (ap (λ (v : OwnLayer). v.key) e) ∙ ap (λ (v : OwnLayer). v.set) e
+own_at (k ∷ layers) zero l apart at = let e : k ≡ l = cc in own_here k layers l.key (ap (λ (v : OwnLayer). is_same_key v.key l.key) e ∙ key_own l.key) ∙ ap (λ (v : OwnLayer). v.set) e
 own_at (k ∷ layers) (suc i) l apart at = own_past k layers l.key differ ∙ own_at layers i l apart.1 at
   where
-    among : IsListed l.key (layer_keys layers)
-    among = listed (layer_keys layers) i l.key (map_to (λ (v : OwnLayer). v.key) layers i l at)
-
     differ : is_same_key k.key l.key ≡ false
     differ = elim (cases_Bool (is_same_key k.key l.key)) [
-      | inl g ↦ absurd (apart.0 (subst (λ (x : LayerKey). IsListed x (layer_keys layers)) (sym (key_same k.key l.key g)) among))
+      | inl g ↦ absurd (apart.0 (subst (λ (x : LayerKey). IsListed x (layer_keys layers)) (sym (key_same k.key l.key g)) (key_listed layers i l at)))
       | inr g ↦ g
     ]
 
@@ -128,7 +128,7 @@ module _ (d e : Linked) (keys : List LayerKey) (further : List (Vec OwnLayer)) (
       let c = at_too e.cells d.cells cell p made.count at_e in
       let is = made.each cell layers c.0 p more c.1 at_e in
       let same = are.each cell layers more in
-      let here : IsListed layer.key keys = subst (λ ks. IsListed layer.key ks) same (listed (layer_keys layers.items) i layer.key (map_to (λ (v : OwnLayer). v.key) layers.items i layer at)) in
+      let here : IsListed layer.key keys = subst (λ ks. IsListed layer.key ks) same (key_listed layers.items i layer at) in
       ap (λ (ls : List OwnLayer). own_rects ls layer.key) is.layers ∙ own_more keys layer.key layers.items (listed_has keys layer.key here) c.0.layers.items
       ∙ own_at layers.items i layer (subst (λ ks. AreApart ks) (sym same) are.apart) at
 

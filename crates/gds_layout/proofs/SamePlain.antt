@@ -1,5 +1,5 @@
 -- Cells that draw and place the same are one plain layout.
-use Rattle.std.proofs.Common.{◌≡◌, ℕ, List, [], ◌∷◌, map, ap, ◌∙◌}
+use Rattle.std.proofs.Common.{◌≡◌, ℕ, List, [], ◌∷◌, map, refl, ap, ◌∙◌}
 use Rattle.flat_layout.specs.Layout as flat
 use Rattle.flat_layout.specs.declared.way.Way.{Way}
 use Rattle.cell_graph.specs.declared.cells.CellPart.{CellPart}

@@ -1,5 +1,5 @@
 -- What is asked of sets, told by Booleans of them.
-use Rattle.std.proofs.Common.{◌≡◌, ◌⊎◌, ◌↔◌, inl, inr, ℕ, ◌≤◌, ◌<◌, Bool, true, false, not, ◌&&◌, List, Option, Some, None, refl, sym, ◌∙◌, subst}
+use Rattle.std.proofs.Common.{◌≡◌, ◌↔◌, inl, inr, ℕ, ◌≤◌, Bool, true, false, not, List, Option, refl, sym, ◌∙◌, subst}
 use Rattle.std.proofs.lemmas.Bool.{and_from, and_parts, cases_Bool, false≢true}
 use Rattle.base_laws.proofs.Tests.{not_both}
 use Rattle.geo_base.specs.Layers.{combined}

@@ -6,27 +6,13 @@ ghost use Rattle.flat_layout.specs.Parts.{AllOn, Counts, IsCloseTo};
 ghost use Rattle.gate_shapes.specs.Sets.{in_set};
 ghost use Rattle.gate_shapes.specs.Shapes.{Meet};
 ghost use Rattle.select_laws.specs.Selects.{Has, IsBelow};
-ghost use Rattle.region_asks.specs.Asks.{ask_of};
+ghost use Rattle.rule_stages.specs.Selections.{ask_of};
 
 use gate_shapes::{count, least};
 use geo_base::Op;
 use rect_sets::RectSet;
+use rule_text::Ask;
 use std::alloc::{AllocError, Global};
-
-/// What is asked of a region.
-#[derive(Clone, Copy, Debug)]
-pub enum Ask {
-    /// It touches other squares, at a corner too, or shares some.
-    Interacting,
-    /// It shares squares with others.
-    Overlapping,
-    /// All its squares are among others.
-    Inside,
-    /// None of its squares is among others.
-    Outside,
-    /// It has so many squares, from `low` on and below `high`.
-    WithArea { low: u64, high: Option<u64> },
-}
 
 fn has_square(set: &RectSet) -> bool
     ensures { (result ≡ true) ↔ ((q : Square) × in_set set.now q) }

@@ -4,4 +4,4 @@
 
 mod asks;
 
-pub use asks::{Ask, has};
+pub use asks::has;

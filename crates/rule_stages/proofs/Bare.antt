@@ -1,6 +1,6 @@
 -- The rules of a depth are sound.
-use Rattle.std.proofs.Common.{◌≡◌, ◌⊎◌, inl, inr, ℕ, suc, ◌+◌, ◌<◌, ◌≤◌, max, true, false, List, [], ◌∷◌, Option, Some, None, map, refl, sym, ap, ◌∙◌, subst, arith, length, get_or, slice_get}
-use Rattle.base_laws.proofs.Items.{item_at, map_from, map_to, one_list}
+use Rattle.std.proofs.Common.{◌≡◌, inl, inr, ℕ, suc, ◌<◌, ◌≤◌, max, List, [], ◌∷◌, Option, Some, None, map, refl, sym, ap, ◌∙◌, subst, arith, length, get_or, slice_get}
+use Rattle.base_laws.proofs.Items.{map_from, one_list}
 use Rattle.std.specs.List.{All}
 use Rattle.std.proofs.lemmas.List.{length-map}
 use Rattle.std.proofs.lemmas.List.Elements.{All-nil, All-cons}
@@ -12,8 +12,8 @@ use Rattle.rule_text.specs.declared.rules.LayerForm.{LayerForm}
 use Rattle.rule_text.specs.declared.rules.LayerForm.TheVariants as form
 use Rattle.rule_text.specs.declared.rules.LayerRule.{LayerRule}
 use Rattle.rule_text.specs.declared.rules.SelectRule.{SelectRule}
-use Rattle.rule_text.specs.Reaches.{MOST_REACH, reaches}
-use Rattle.rule_text.specs.Rules.{Rules, names_of, are_texts, is_text_rule, has_texts}
+use Rattle.rule_text.specs.Reaches.{MOST_REACH}
+use Rattle.rule_text.specs.Rules.{Rules, names_of, are_texts, is_text_rule}
 use Rattle.rule_text.specs.Sound.{Each, IsLayer, AreOperands, IsReadable, IsFormed, IsSound}
 use Rattle.rule_layers.specs.Formulas.{formulas, formula_by, greatest_reach}
 use Rattle.rule_layers.specs.Reads.{IsByName, Reads}

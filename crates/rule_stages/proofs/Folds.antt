@@ -4,7 +4,6 @@ use Rattle.base_laws.proofs.Items.{get_last, get_left}
 use Rattle.std.proofs.lemmas.List.{get_or_append_left}
 use Rattle.std.proofs.lemmas.Option.{get_or_from_slice_get}
 use Rattle.flat_layout.specs.Layers.{Formula, Empty, Binary, Sized}
-use Rattle.geo_base.specs.declared.layer.Op.{Op}
 use Rattle.rule_text.specs.declared.rules.LayerForm.{LayerForm}
 use Rattle.rule_text.specs.declared.rules.LayerForm.TheVariants as form
 use Rattle.rule_text.specs.declared.rules.LayerRule.{LayerRule}
@@ -90,7 +89,7 @@ pub tree_at : (names : List LayerRule) (k : ℕ) (n : LayerRule) → slice_get n
 tree_at names k n at below = get_or_from_slice_get (formulas names) k (formula_by (formulas names) n.form) Empty (tree_there names k n at below)
 
 pub trees_long : (names : List LayerRule) → length (formulas names) ≡ length names
-trees_long names = ap length (trees_are [] names) ∙ fold_long tree_step [] names
+trees_long names = ap length (trees_are [] names) ∙ fold_long tree_step [] names ∙ (let z : length {A = Formula} [] + length names ≡ length names = omega arith in z)
 
 -- depths
 

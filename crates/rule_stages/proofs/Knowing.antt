@@ -1,5 +1,5 @@
 -- What is known of the selections of a sound rule set: each stands upon what it reads.
-use Rattle.std.proofs.Common.{◌≡◌, ◌⊎◌, inl, inr, ℕ, zero, suc, ◌+◌, ◌<◌, ◌≤◌, ◌^◌, max, Bool, true, false, cond, List, [], ◌∷◌, ◌++◌, Option, Some, None, refl, sym, ap, ◌∙◌, subst, arith, length, get_or, slice_get}
+use Rattle.std.proofs.Common.{◌≡◌, ◌⊎◌, inl, inr, ℕ, zero, suc, ◌+◌, ◌<◌, ◌≤◌, max, Bool, true, false, cond, List, [], ◌∷◌, Option, Some, None, refl, sym, ap, ◌∙◌, subst, arith, length, get_or, slice_get}
 use Rattle.std.specs.Prelude.{◌==◌}
 use Rattle.std.proofs.Math.Decide.{ℕ_discrete}
 use Rattle.std.proofs.Math.Nat.{le-max_left, le-max_right}
@@ -7,7 +7,7 @@ use Rattle.std.proofs.lemmas.Option.{slice_get_within, same_Some}
 use Rattle.base_laws.proofs.Items.{item_at}
 use Rattle.plain_netlist.proofs.Listing.{rising_at}
 use Rattle.flat_layout.specs.Layout.{Some_of}
-use Rattle.flat_layout.specs.Layers.{Formula, Input, Empty, inputs}
+use Rattle.flat_layout.specs.Layers.{Empty, inputs}
 use Rattle.flat_laws.proofs.Shut.{some_either}
 use Rattle.geo_base.specs.Layers.{IsStreamKey}
 use Rattle.geo_base.specs.declared.layer.LayerKey.{LayerKey}

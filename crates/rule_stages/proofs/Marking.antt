@@ -1,22 +1,20 @@
 -- Marks of the names that some selections read, from the last name back.
-use Rattle.std.proofs.Common.{◌≡◌, ◌⊎◌, ◌↔◌, inl, inr, ℕ, suc, ◌+◌, ◌<◌, ◌≤◌, Bool, true, false, List, ◌∷◌, [], ◌++◌, Option, Some, None, refl, sym, ap, ◌∙◌, subst, arith, length, length-append, get_or, slice_get}
+use Rattle.std.proofs.Common.{◌≡◌, inl, inr, ℕ, ◌+◌, ◌<◌, ◌≤◌, Bool, true, false, List, ◌∷◌, [], ◌++◌, Option, Some, None, refl, sym, ap, ◌∙◌, subst, arith, length, length-append, get_or, slice_get}
 use Rattle.base_laws.proofs.Items.{item_at, get_last, push_old}
 use Rattle.std.proofs.Math.Decide.{ℕ_discrete}
 use Rattle.std.proofs.lemmas.Bool.{false≢true}
 use Rattle.std.proofs.lemmas.Option.{slice_get_within, same_Some}
 use Rattle.rule_text.specs.declared.rules.LayerForm.{LayerForm}
-use Rattle.rule_text.specs.declared.rules.LayerForm.TheVariants as form
 use Rattle.rule_text.specs.declared.rules.LayerRule.{LayerRule}
 use Rattle.rule_text.specs.declared.rules.SelectRule.{SelectRule}
 use Rattle.rule_text.specs.Rules.{Rules}
 use Rattle.rule_text.specs.Sound.{IsFormed}
 use Rattle.rule_layers.specs.Reads.{IsByName, Marks, Reads}
 use Rattle.rule_stages.specs.Depths.{select_at}
-use Rattle.rule_stages.specs.Marks.{stage_form, AreBelow, IsMarkedBy, AreMarkedFrom, AreFormedTo}
-use Rattle.rule_stages.specs.Selections.{sight_form}
+use Rattle.rule_stages.specs.Marks.{stage_form, AreBelow, AreMarkedFrom, AreFormedTo}
 use Rattle.rule_stages.specs.StageRules.{AreStageNames, IsStageForm}
 use Rattle.rule_stages.specs.Stages.{AreSelectsOf}
-use Rattle.rule_stages.proofs.Knowing.{IsAmong, found, select_rule_of, below_of}
+use Rattle.rule_stages.proofs.Knowing.{found, select_rule_of, below_of}
 
 -- names read names before them
 
@@ -43,7 +41,7 @@ none_marked names selected marks long none = record {
 -- marks of what one name reads leave those behind it as they are
 not_marked : (b c : Bool) → (c ≡ true → b ≡ true) → (b ≡ true → c ≡ true) → c ≡ b
 not_marked true true f g = refl
-not_marked true false f g = sym (g refl)
+not_marked true false f g = g refl
 not_marked false true f g = sym (f refl)
 not_marked false false f g = refl
 
@@ -143,3 +141,10 @@ stage_names names selected marks staged m h = record {
             o.3,
       );
 }
+
+-- the same of lists that are those
+pub told_names : (names one other : List LayerRule) (selected : List SelectRule) (marks seen : List Bool) (staged : List LayerRule) → one ≡ names → other ≡ names → seen ≡ marks → AreMarkedFrom one selected 0 marks
+    → AreFormedTo other selected seen (length other) staged → AreStageNames names selected staged
+told_names names one other selected marks seen staged e f g m h =
+    stage_names names selected marks staged (subst (λ (l : List LayerRule). AreMarkedFrom l selected 0 marks) e m)
+    (subst (λ (bs : List Bool). AreFormedTo names selected bs (length names) staged) g (subst (λ (l : List LayerRule). AreFormedTo l selected seen (length l) staged) f h))

@@ -5,17 +5,15 @@ use Rattle.std.proofs.lemmas.Option.{slice_get_within, same_Some}
 use Rattle.flat_layout.specs.Layers.{Formula, Empty}
 use Rattle.flat_layout.specs.Parts.{Corners}
 use Rattle.select_laws.specs.Selects.{Select}
-use Rattle.rule_text.specs.declared.rules.LayerForm.{LayerForm}
-use Rattle.rule_text.specs.declared.rules.LayerForm.TheVariants as form
 use Rattle.rule_text.specs.declared.rules.LayerRule.{LayerRule}
 use Rattle.rule_text.specs.declared.rules.SelectRule.{SelectRule}
 use Rattle.rule_text.specs.Rules.{Rules}
-use Rattle.rule_text.specs.Sound.{IsFormed, IsSelectRule}
+use Rattle.rule_text.specs.Sound.{IsFormed}
 use Rattle.rule_layers.specs.Formulas.{formulas, formula_by}
 use Rattle.rule_layers.specs.Reads.{IsByName, Reads}
 use Rattle.rule_stages.specs.Depths.{select_at, depths}
-use Rattle.rule_stages.specs.Selections.{IsKnown, select_of, ask_of, side_of, sight_form}
-use Rattle.rule_stages.specs.StageRules.{AreStageNames, IsStageForm, IsStageSelect, StageSelectLaw}
+use Rattle.rule_stages.specs.Selections.{ask_of, side_of, sight_form}
+use Rattle.rule_stages.specs.StageRules.{AreStageNames, IsStageForm, StageSelectLaw}
 use Rattle.rule_stages.specs.Stages.{at_depth}
 use Rattle.rule_stages.proofs.Folds.{form_tree, tree_at, tree_there, trees_long}
 use Rattle.rule_stages.proofs.Knowing.{IsAmong, found, own_found, select_rule_of, below_of, operand_depth, region_depth, other_depth}

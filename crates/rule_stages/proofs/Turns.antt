@@ -1,11 +1,11 @@
 -- Selections by depth: each reads layers before its own alone.
-use Rattle.std.proofs.Common.{◌≡◌, ◌⊎◌, inl, inr, ℕ, zero, suc, ◌+◌, ◌<◌, ◌≤◌, Bool, true, false, cond, List, [], ◌∷◌, ◌++◌, map, Some, refl, sym, ap, ◌∙◌, subst, arith, length, get_or, slice_get}
+use Rattle.std.proofs.Common.{◌≡◌, ◌⊎◌, inl, inr, ℕ, zero, suc, ◌+◌, ◌<◌, ◌≤◌, Bool, true, false, cond, List, [], ◌∷◌, ◌++◌, map, Some, refl, sym, ap, ◌∙◌, subst, arith, get_or, slice_get}
 use Rattle.std.specs.Prelude.{◌==◌}
 use Rattle.std.proofs.Math.Nat.{le-max_left, le-max_right, le_trans}
 use Rattle.std.specs.List.{filter}
 use Rattle.std.proofs.Math.Decide.{ℕ_discrete}
 use Rattle.std.proofs.lemmas.List.{map-append}
-use Rattle.std.proofs.lemmas.Option.{slice_get_within, same_Some, get_or_from_slice_get}
+use Rattle.std.proofs.lemmas.Option.{same_Some}
 use Rattle.plain_netlist.proofs.Listing.{rising_at}
 use Rattle.flat_layout.specs.Layout.{Some_of}
 use Rattle.geo_base.specs.declared.layer.LayerKey.{LayerKey}
@@ -14,9 +14,9 @@ use Rattle.rule_text.specs.Rules.{Rules, select_key}
 use Rattle.rule_text.specs.Sound.{IsFormed, IsNamedBefore}
 use Rattle.rule_layers.specs.Formulas.{greatest}
 use Rattle.rule_stages.specs.Depths.{depths, deepest}
-use Rattle.rule_stages.specs.Stages.{stage_of, at_depth, from_depth, stages_of, AreSelectsOf, InTurnLaw, EachStageLaw, FreeLaw}
+use Rattle.rule_stages.specs.Stages.{stage_of, at_depth, from_depth, AreSelectsOf, InTurnLaw, EachStageLaw, FreeLaw}
 use Rattle.select_laws.specs.Staged.{Stage, IsKeyOf, Reads, IsBefore, AreInTurn}
-use Rattle.rule_stages.proofs.Knowing.{IsAmong, one_name, reads_deeper, selected_depth, select_rule_of}
+use Rattle.rule_stages.proofs.Knowing.{IsAmong, reads_deeper, selected_depth}
 
 -- P holds of each
 abbrev pub Each : (SelectRule → Type 0) → List SelectRule → Type 0
@@ -52,10 +52,10 @@ each_kept p P (x ∷ xs) h = kept_by (p x) P x (filter p xs) h.0 (each_kept p P 
 
 -- in turn
 
-record IsAt (r : Rules) (low high : ℕ) (s : SelectRule) : Type 0 where
+record IsAt (r : Rules) (least most : ℕ) (s : SelectRule) : Type 0 where
   pub among : IsAmong r.selects s
-  pub low : low ≤ get_or (depths r) s.name 0
-  pub high : get_or (depths r) s.name 0 ≤ high
+  pub low : least ≤ get_or (depths r) s.name 0
+  pub high : get_or (depths r) s.name 0 ≤ most
 
 record IsAfter (r : Rules) (s t : SelectRule) : Type 0 where
   pub depth : get_or (depths r) s.name 0 ≤ get_or (depths r) t.name 0

@@ -1,5 +1,5 @@
 -- Selections of a rule set, as the layout's laws know them.
-use Rattle.std.specs.Prelude.{◌≡◌, ℕ, ◌<◌, Bool, true, false, List, Some, get_or, length, slice_get}
+use Rattle.std.specs.Prelude.{◌≡◌, ◌<◌, Bool, true, false, List, Some, get_or, length, slice_get}
 use Rattle.flat_layout.specs.Layers.{Formula, Empty, Binary}
 use Rattle.flat_layout.specs.Parts.{Corners}
 use Rattle.geo_base.specs.declared.layer.Op.TheVariants.{And}

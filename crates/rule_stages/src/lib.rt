@@ -8,10 +8,10 @@
 ghost use Rattle.rule_stages.specs.Stages.{InTurnLaw, EachStageLaw, FreeLaw};
 ghost use Rattle.rule_stages.specs.StageRules.{StageSoundLaw, StageSelectLaw};
 
-mod depths;
+mod order;
 mod staging;
 
-pub use depths::{at_depth, deepest, depths, select_at, sight_form};
+pub use order::{at_depth, deepest, depths, select_at, sight_form};
 pub use staging::stage_rules;
 
 /// Selections by depth are each selection once, and read only layers of those before.

@@ -7,7 +7,7 @@ ghost use Rattle.rule_stages.specs.Marks.{stage_form, AreBelow, AreMarkedFrom, A
 ghost use Rattle.rule_stages.specs.StageRules.{AreStageNames, bare_rules};
 ghost use Rattle.rule_stages.specs.Stages.{AreSelectsOf};
 
-use crate::depths::{select_at, sight_form};
+use crate::order::{select_at, sight_form};
 use rule_layers::{mark_operands, no_marks};
 use rule_text::{LayerForm, LayerRule, RuleSet, SelectRule};
 use std::alloc::{AllocError, Global};

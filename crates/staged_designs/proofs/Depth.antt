@@ -1,14 +1,12 @@
 -- Cells with further layers are designs with the layers of stages.
-use Rattle.std.proofs.Common.{◌≡◌, ◌⊎◌, ◌↔◌, inl, inr, ℕ, zero, suc, Bool, true, false, not, List, [], ◌∷◌, ◌++◌, Some, None, map, length, slice_get, refl, sym, ◌∙◌, ap, subst}
+use Rattle.std.proofs.Common.{◌≡◌, ◌↔◌, inl, inr, ℕ, zero, suc, Bool, true, false, not, List, [], ◌∷◌, Some, None, map, slice_get, refl, sym, ◌∙◌, ap, subst}
 use Rattle.std.specs.Global.{Vec}
 use Rattle.std.proofs.lemmas.Bool.{cases_Bool, or_cases, false≢true}
-use Rattle.base_laws.proofs.Items.{one_entry, map_from, map_to}
+use Rattle.base_laws.proofs.Items.{map_from, map_to}
 use Rattle.base_laws.proofs.Lists.{map_count}
-use Rattle.base_laws.proofs.Tests.{not_both}
 use Rattle.flat_layout.specs.Arrays.{places_of}
 use Rattle.flat_layout.specs.Layout.{Cell, Some_of, IsOwn, IsReached, Takes}
 use Rattle.flat_layout.specs.Layout as flat
-use Rattle.flat_layout.specs.Plane.{IsIn}
 use Rattle.flat_laws.proofs.Names.{near_input}
 use Rattle.geo_base.specs.Layers.{is_same_key}
 use Rattle.geo_base.specs.declared.layer.LayerKey.{LayerKey}
@@ -16,7 +14,6 @@ use Rattle.geo_base.specs.declared.shapes.Square.{Square}
 use Rattle.plain_netlist.specs.Lists.{IsListed}
 use Rattle.plain_netlist.proofs.Listing.{apart_at}
 use Rattle.plain_netlist.proofs.Members.{listed}
-use Rattle.rect_sets.specs.Rects.{covers}
 use Rattle.cell_graph.specs.Layering.{has_key, other_layers, AreFurther, IsLayeredCell, IsLayeredDesign}
 use Rattle.cell_graph.specs.Linked.{Linked, cell_at, layer_keys, plain, plain_cell, plain_layer, plain_text, reference}
 use Rattle.cell_graph.specs.declared.cells.CellPart.{CellPart}
@@ -28,8 +25,8 @@ use Rattle.cell_graph.proofs.Relinking.{listed_has}
 use Rattle.cell_graph.proofs.Resolving.{at_too}
 use Rattle.select_laws.specs.Layered.{IsOwnSelected}
 use Rattle.select_laws.specs.Staged.{Stage, IsKeyOf}
-use Rattle.staged_designs.specs.Depths.{stage_keys, AreFound, AreFree, DepthLaw}
-use Rattle.staged_designs.proofs.Mixed.{AreAlike, Holds, IsOn, none_passed, pass_some, some_either, some_left, some_passed, some_right, staged}
+use Rattle.staged_designs.specs.Depths.{stage_keys, AreFound, DepthLaw}
+use Rattle.staged_designs.proofs.Mixed.{AreAlike, IsOn, none_passed, pass_some, some_either, some_left, some_passed, some_right, staged}
 
 -- some item of a mapped list
 
@@ -144,14 +141,14 @@ module _ (d e : Linked) (ss : List Stage) (further : List (Vec OwnLayer)) (are :
   of_on x cell key q c at s = (plain_cell c, cell_in x cell c at, (some_map (IsOn key q) plain_layer c.layers.items).1 s)
 
   others : (cell : ℕ) (key : LayerKey) (q : Square) → (IsKeyOf ss key → ⊥) → IsOwn (plain e) cell key q ↔ IsOwn (plain d) cell key q
-  others cell key q no = (
+  others cell key q free_of = (
     (λ h.
         let m = on_of e cell key q h in
         let r = below cell m.0 m.1 in
         let s = subst (λ (ls : List OwnLayer). Some_of (On key q) ls) r.1.is.layers m.2 in
         of_on d cell key q r.0 r.1.first (elim (some_either (On key q) (other_layers keys r.0.layers.items) r.1.layers.items s) [
           | inl a ↦ some_passed (On key q) (is_other keys) r.0.layers.items a
-          | inr b ↦ absurd (no (key_of ss key (subst (λ ks. IsListed key ks) (are.each cell r.1.layers r.1.more) (on_listed r.1.layers.items key q b))))
+          | inr b ↦ absurd (free_of (key_of ss key (subst (λ ks. IsListed key ks) (are.each cell r.1.layers r.1.more) (on_listed r.1.layers.items key q b))))
         ])),
     (λ h.
         let m = on_of d cell key q h in
@@ -162,7 +159,7 @@ module _ (d e : Linked) (ss : List Stage) (further : List (Vec OwnLayer)) (are :
     where
       passes : (l : OwnLayer) → On key q l → is_other keys l ≡ true
       passes l on = elim (cases_Bool (has_key keys l.key)) [
-        | inl e ↦ absurd (no (key_of ss key (has_listed keys key (subst (λ k. has_key keys k ≡ true) on.0 e))))
+        | inl e ↦ absurd (free_of (key_of ss key (has_listed keys key (subst (λ k. has_key keys k ≡ true) on.0 e))))
         | inr e ↦ ap not e
       ]
 

@@ -2,7 +2,6 @@
 use Rattle.std.proofs.Common.{◌≡◌, ◌⊎◌, ◌↔◌, inl, inr, ℕ, zero, suc, Bool, true, false, not, cond, List, [], ◌∷◌, ◌++◌, Some, None, length, slice_get, refl, sym, ◌∙◌, ap, subst, arith}
 use Rattle.std.specs.List.{filter}
 use Rattle.std.proofs.lemmas.Bool.{cases_Bool}
-use Rattle.base_laws.proofs.Items.{one_entry}
 use Rattle.base_laws.proofs.Tests.{not_both}
 use Rattle.flat_layout.specs.Layout.{Cell, Design, Layer, Place, Some_of, Text, HasText, IsOwn, IsPlaced, IsReached}
 use Rattle.flat_layout.specs.Plane.{IsIn}
@@ -11,7 +10,7 @@ use Rattle.geo_base.specs.declared.layer.LayerKey.{LayerKey}
 use Rattle.geo_base.specs.declared.shapes.Square.{Square}
 use Rattle.cell_graph.proofs.Bridge.{key_is, key_own, key_same}
 use Rattle.cell_graph.proofs.Resolving.{at_too}
-use Rattle.select_laws.specs.Layered.{IsLayered, IsOwnSelected, IsSameElse}
+use Rattle.select_laws.specs.Layered.{IsOwnSelected, IsSameElse}
 use Rattle.select_laws.specs.Selects.{sight}
 use Rattle.select_laws.specs.Staged.{Stage, IsStaged, IsKeyOf, Reads}
 use Rattle.select_laws.specs.Whole.{ArePartedRegions}
@@ -232,13 +231,13 @@ staged (t ∷ ts) s d e free apart h = (
     new cell q reached = let a = mixed_key d e h.alike s.key cell q in let b = h.each 0 s refl cell q reached in ((λ x. b.0 (a.0 x)), (λ x. a.1 (b.1 x)))
 
     other_key : (key : LayerKey) → (IsKeyOf (t ∷ ts) key → ⊥) → (key ≡ s.key → ⊥) → IsKeyOf (s ∷ (t ∷ ts)) key → ⊥
-    other_key key no differ (inl k) = differ (sym k)
-    other_key key no differ (inr k) = no k
+    other_key key free_of differ (inl k) = differ (sym k)
+    other_key key free_of differ (inr k) = free_of k
 
     rest : Holds middle e (t ∷ ts)
     rest = record {
       alike = mixed_alike d e h.alike s.key;
-      others = λ cell key q no. elim (key_is key s.key) [
+      others = λ cell key q free_of. elim (key_is key s.key) [
         | inl k ↦
             let is : key ≡ s.key = key_same key s.key k in
             let a = mixed_key d e h.alike s.key cell q in
@@ -246,7 +245,7 @@ staged (t ∷ ts) s d e free apart h = (
         | inr k ↦
             let differ : key ≡ s.key → ⊥ = λ same. not_both (is_same_key key s.key) (subst (λ x. is_same_key key x ≡ true) same (key_own key)) k in
             let a = mixed_other d e h.alike s.key cell key q differ in
-            let b = h.others cell key q (other_key key no differ) in ((λ x. a.1 (b.0 x)), (λ x. b.1 (a.0 x)))
+            let b = h.others cell key q (other_key key free_of differ) in ((λ x. a.1 (b.0 x)), (λ x. b.1 (a.0 x)))
       ];
       each = λ i u at cell q reached.
           let b = h.each (suc i) u at cell q (reached_to d middle s.key same cell reached) in

@@ -1,5 +1,5 @@
 -- A design with the layers of selections that don't read one another.
-use Rattle.std.specs.Prelude.{◌≡◌, ◌↔◌, ℕ, List, [], ◌∷◌, Some, map, slice_get, true}
+use Rattle.std.specs.Prelude.{◌≡◌, ◌↔◌, ℕ, List, ◌∷◌, Some, map, slice_get, true}
 use Rattle.std.specs.Global.{Vec}
 use Rattle.flat_layout.specs.Layout.{IsReached}
 use Rattle.geo_base.specs.declared.layer.LayerKey.{LayerKey}

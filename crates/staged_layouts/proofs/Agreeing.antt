@@ -14,11 +14,11 @@ use Rattle.staged_designs.proofs.Mixed.{AreAlike, mixed, mixed_alike, mixed_key,
 use Rattle.staged_layouts.proofs.Stages.{not_read, own_first, reached_back}
 
 pub differs : (a b : LayerKey) → is_same_key a b ≡ false → a ≡ b → ⊥
-differs a b no same = not_both (is_same_key a b) (subst (λ k. is_same_key a k ≡ true) same (key_own a)) no
+differs a b apart_from same = not_both (is_same_key a b) (subst (λ k. is_same_key a k ≡ true) same (key_own a)) apart_from
 
 other_key : (s : Stage) (ss : List Stage) (key : LayerKey) → (IsKeyOf ss key → ⊥) → (key ≡ s.key → ⊥) → IsKeyOf (s ∷ ss) key → ⊥
-other_key s ss key no differ (inl k) = differ (sym k)
-other_key s ss key no differ (inr k) = no k
+other_key s ss key apart_from differ (inl k) = differ (sym k)
+other_key s ss key apart_from differ (inr k) = apart_from k
 
 -- own squares that are the same but on these stages' keys
 abbrev AreSameOff : List Stage → Design → Design → Type 0
@@ -34,7 +34,8 @@ others_selected [] s d e x alike same free cell q =
       texts = alike.texts;
       own = λ at other z differ. same at other z (other_key s [] other (λ k. k) differ);
     }) (free s.key (inl refl)) cell q
-others_selected (t ∷ ts) s d e x alike same free cell q = ((λ h. one.0 (rest.0 h)), (λ h. rest.1 (one.1 h)))
+others_selected (t ∷ ts) s d e x alike same free cell q =
+    let rest = others_selected ts t middle e x (mixed_alike d e alike s.key) off (λ key k. free key (inr k)) cell q in ((λ h. one.0 (rest.0 h)), (λ h. rest.1 (one.1 h)))
   where
     middle : Design
     middle = record { cells = mixed s.key d.cells e.cells; top = d.top; way = d.way }
@@ -43,18 +44,15 @@ others_selected (t ∷ ts) s d e x alike same free cell q = ((λ h. one.0 (rest.
     one = group d middle s.key x (mixed_same d e alike s.key) (free s.key (inl refl)) cell q
 
     off : AreSameOff (t ∷ ts) middle e
-    off at key z no = elim (key_is key s.key) [
+    off at key z apart_from = elim (key_is key s.key) [
       | inl k ↦
           let a = mixed_key d e alike s.key at z in
           subst (λ (y : LayerKey). IsOwn e at y z ↔ IsOwn middle at y z) (sym (key_same key s.key k)) (a.1, a.0)
       | inr k ↦
           let differ = differs key s.key k in
           let a = mixed_other d e alike s.key at key z differ in
-          let b = same at key z (other_key s (t ∷ ts) key no differ) in ((λ y. a.1 (b.0 y)), (λ y. b.1 (a.0 y)))
+          let b = same at key z (other_key s (t ∷ ts) key apart_from differ) in ((λ y. a.1 (b.0 y)), (λ y. b.1 (a.0 y)))
     ]
-
-    rest : IsOwnSelected e x cell q ↔ IsOwnSelected middle x cell q
-    rest = others_selected ts t middle e x (mixed_alike d e alike s.key) off (λ key k. free key (inr k)) cell q
 
 leads_alike : (d e : Design) → AreAlike d e → (path : List ℕ) (from to : ℕ) → Leads e from path to → Leads d from path to
 leads_alike d e alike [] from to h = h
@@ -94,7 +92,7 @@ agree (s ∷ ss) d f e g turns one two alike same only other cell key q =
         )
 
     off : AreSameOff ss e g
-    off at k z no = elim (key_is k s.key) [
+    off at k z apart_from = elim (key_is k s.key) [
       | inl is ↦ subst (λ (y : LayerKey). IsOwn g at y z ↔ IsOwn e at y z) (sym (key_same k s.key is)) (here at z)
-      | inr not ↦ same at k z (other_key s ss k no (differs k s.key not))
+      | inr not ↦ same at k z (other_key s ss k apart_from (differs k s.key not))
     ]

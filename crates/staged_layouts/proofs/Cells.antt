@@ -16,7 +16,8 @@ use Rattle.cell_graph.specs.Linked.{IsSound, Linked, cell_at, layer_keys, own_of
 use Rattle.cell_graph.specs.declared.cells.CellPart.{CellPart}
 use Rattle.cell_graph.specs.declared.cells.OwnLayer.{OwnLayer}
 use Rattle.cell_graph.specs.declared.cells.Place.{Place}
-use Rattle.cell_graph.proofs.Bridge.{all_at, key_is, key_own, key_same}
+use Rattle.cell_graph.proofs.Bridge.{all_at, key_is, key_same}
+use Rattle.cell_graph.proofs.LayeredNames.{key_listed, own_at, own_past}
 use Rattle.gds_layout.specs.Once.{contents}
 use Rattle.select_laws.specs.Staged.{Stage}
 use Rattle.staged_designs.specs.Depths.{stage_keys}
@@ -25,37 +26,16 @@ use Rattle.geo_base.specs.Layers.{is_same_key}
 
 -- ---- the rectangles of a further layer
 
-rects_first : (l : OwnLayer) (layers : List OwnLayer) (key : LayerKey) → is_same_key l.key key ≡ true → own_rects (l ∷ layers) key ≡ l.set
-rects_first l layers key e = rw e refl
-
-rects_next : (l : OwnLayer) (layers : List OwnLayer) (key : LayerKey) → is_same_key l.key key ≡ false → own_rects (l ∷ layers) key ≡ own_rects layers key
-rects_next l layers key e = rw e refl
-
-listed_at : (layers : List OwnLayer) (j : ℕ) (u : OwnLayer) → slice_get layers j ≡ Some u → IsListed u.key (layer_keys layers)
-listed_at [] j u e = absurd (let f : None ≡ Some u = e in let z : ⊥ = cc in z)
-listed_at (l ∷ layers) zero u e = let f : l ≡ u = cc in inl (ap (λ (x : OwnLayer). x.key) (sym f))
-listed_at (l ∷ layers) (suc j) u e = inr (listed_at layers j u e)
-
 listed_behind : (xs ys : List OwnLayer) (key : LayerKey) → IsListed key (layer_keys ys) → IsListed key (layer_keys (xs ++ ys))
 listed_behind [] ys key h = h
 listed_behind (x ∷ xs) ys key h = inr (listed_behind xs ys key h)
 
 -- of layers of different keys each is its key's
-rects_at : (layers : List OwnLayer) (j : ℕ) (u : OwnLayer) → AreApart (layer_keys layers) → slice_get layers j ≡ Some u → own_rects layers u.key ≡ u.set
-rects_at [] j u apart e = absurd (let f : None ≡ Some u = e in let z : ⊥ = cc in z)
-rects_at (l ∷ layers) zero u apart e =
-    let f : l ≡ u = cc in
-    subst (λ (x : OwnLayer). own_rects (l ∷ layers) x.key ≡ x.set) f (rects_first l layers l.key (key_own l.key))
-rects_at (l ∷ layers) (suc j) u apart e = elim (key_is l.key u.key) [
-  | inl same ↦ absurd (apart.0 (subst (λ (k : LayerKey). IsListed k (layer_keys layers)) (sym (key_same l.key u.key same)) (listed_at layers j u e)))
-  | inr other ↦ rects_next l layers u.key other ∙ rects_at layers j u apart.1 e
-]
-
 rects_behind : (xs ys : List OwnLayer) (j : ℕ) (u : OwnLayer) → AreApart (layer_keys (xs ++ ys)) → slice_get ys j ≡ Some u → own_rects (xs ++ ys) u.key ≡ u.set
-rects_behind [] ys j u apart e = rects_at ys j u apart e
+rects_behind [] ys j u apart e = own_at ys j u apart e
 rects_behind (x ∷ xs) ys j u apart e = elim (key_is x.key u.key) [
-  | inl same ↦ absurd (apart.0 (subst (λ (k : LayerKey). IsListed k (layer_keys (xs ++ ys))) (sym (key_same x.key u.key same)) (listed_behind xs ys u.key (listed_at ys j u e))))
-  | inr other ↦ rects_next x (xs ++ ys) u.key other ∙ rects_behind xs ys j u apart.1 e
+  | inl same ↦ absurd (apart.0 (subst (λ (k : LayerKey). IsListed k (layer_keys (xs ++ ys))) (sym (key_same x.key u.key same)) (listed_behind xs ys u.key (key_listed ys j u e))))
+  | inr other ↦ own_past x (xs ++ ys) u.key other ∙ rects_behind xs ys j u apart.1 e
 ]
 
 -- and they cover the cell's own squares

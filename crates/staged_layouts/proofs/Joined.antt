@@ -47,14 +47,14 @@ key_known (t ∷ ts) key = elim (key_is t.key key) [
   | inl is ↦ inl (inl (key_same t.key key is))
   | inr other ↦ elim (key_known ts key) [
     | inl h ↦ inl (inr h)
-    | inr no ↦ inr (λ h. elim h [ inl same ↦ differs t.key key other same | inr k ↦ no k ])
+    | inr apart_from ↦ inr (λ h. elim h [ inl same ↦ differs t.key key other same | inr k ↦ apart_from k ])
   ]
 ]
 
 key_in : (ss ts : List Stage) (key : LayerKey) → IsKeyOf (ss ++ ts) key → (IsKeyOf ts key → ⊥) → IsKeyOf ss key
-key_in [] ts key h no = absurd (no h)
-key_in (s ∷ ss) ts key (inl e) no = inl e
-key_in (s ∷ ss) ts key (inr h) no = inr (key_in ss ts key h no)
+key_in [] ts key h apart_from = absurd (apart_from h)
+key_in (s ∷ ss) ts key (inl e) apart_from = inl e
+key_in (s ∷ ss) ts key (inr h) apart_from = inr (key_in ss ts key h apart_from)
 
 pub on_law : StagedOnLaw
 on_law ss ts d m e x y = record {
@@ -68,6 +68,6 @@ on_law ss ts d m e x y = record {
   staged = staged_on ss ts (plain d) (plain m) (plain e) x.staged y.staged;
   only = λ cell key q is own. elim (key_known ts key) [
     | inl k ↦ reached_back ss (plain d) (plain m) x.staged cell (y.only cell key q k own)
-    | inr no ↦ x.only cell key q (key_in ss ts key is no) ((staged_own ts (plain m) (plain e) key y.staged no cell q).0 own)
+    | inr apart_from ↦ x.only cell key q (key_in ss ts key is apart_from) ((staged_own ts (plain m) (plain e) key y.staged apart_from cell q).0 own)
   ];
 }

@@ -76,9 +76,9 @@ module _ (own : OwnLaw) (lists : OneListLaw) (stages : List Stage) (l k m n : La
 
   own_same : (cell : ℕ) (key : LayerKey) (q : Square) → IsOwn g cell key q ↔ IsOwn e cell key q
   own_same cell key q = agree stages d d e g turns x.design.staged theirs both
-      (λ at i z no.
-      let a = staged_own stages d g i theirs no at z in
-      let b = staged_own stages d e i x.design.staged no at z in ((λ h. b.1 (a.0 h)), (λ h. a.1 (b.0 h))))
+      (λ at i z apart_from.
+      let a = staged_own stages d g i theirs apart_from at z in
+      let b = staged_own stages d e i x.design.staged apart_from at z in ((λ h. b.1 (a.0 h)), (λ h. a.1 (b.0 h))))
       mine_only theirs_only cell key q
 
   cells_same : map contents m.design.cells ≡ map contents n.design.cells

@@ -14,12 +14,12 @@ use Rattle.cell_graph.specs.Linked.{IsSound, Linked, cell_at, layer_keys, own_of
 use Rattle.cell_graph.specs.declared.cells.CellPart.{CellPart}
 use Rattle.cell_graph.specs.declared.cells.OwnLayer.{OwnLayer}
 use Rattle.cell_graph.proofs.Bridge.{key_is, key_same, part_of}
+use Rattle.cell_graph.proofs.LayeredNames.{own_here, own_past}
 use Rattle.cell_graph.proofs.Resolving.{at_too}
 use Rattle.select_laws.specs.Staged.{IsKeyOf, Stage}
 use Rattle.staged_designs.specs.Depths.{DepthLaw, stage_keys}
 use Rattle.staged_designs.proofs.Depth.{has_listed, key_of}
 use Rattle.staged_layouts.specs.Staged.{AreFresh, IsStagedCell, StagedDepthLaw}
-use Rattle.staged_layouts.proofs.Cells.{rects_first, rects_next}
 
 -- layers of none of the keys are all kept
 all_others : (keys : List LayerKey) (layers : List OwnLayer) → ((key : LayerKey) → IsListed key keys → IsListed key (layer_keys layers) → ⊥) → other_layers keys layers ≡ layers
@@ -31,14 +31,14 @@ all_others keys (l ∷ layers) free = elim (cases_Bool (has_key keys l.key)) [
 
 -- squares on a key that isn't among the first layers are of one of the others
 behind : (xs ys : List OwnLayer) (key : LayerKey) (q : Square) → (IsListed key (layer_keys xs) → ⊥) → covers (own_rects (xs ++ ys) key) q ≡ true → (l : OwnLayer) × IsListed l ys × (covers l.set q ≡ true)
-behind [] [] key q no e = absurd (false≢true e)
-behind [] (y ∷ ys) key q no e = elim (key_is y.key key) [
-  | inl same ↦ (y, inl refl, subst (λ (rs : List Rect). covers rs q ≡ true) (rects_first y ys key same) e)
-  | inr other ↦ let r = behind [] ys key q no (subst (λ (rs : List Rect). covers rs q ≡ true) (rects_next y ys key other) e) in (r.0, inr r.1, r.2)
+behind [] [] key q apart_from e = absurd (false≢true e)
+behind [] (y ∷ ys) key q apart_from e = elim (key_is y.key key) [
+  | inl same ↦ (y, inl refl, subst (λ (rs : List Rect). covers rs q ≡ true) (own_here y ys key same) e)
+  | inr other ↦ let r = behind [] ys key q apart_from (subst (λ (rs : List Rect). covers rs q ≡ true) (own_past y ys key other) e) in (r.0, inr r.1, r.2)
 ]
-behind (x ∷ xs) ys key q no e = elim (key_is x.key key) [
-  | inl same ↦ absurd (no (inl (sym (key_same x.key key same))))
-  | inr other ↦ behind xs ys key q (λ h. no (inr h)) (subst (λ (rs : List Rect). covers rs q ≡ true) (rects_next x (xs ++ ys) key other) e)
+behind (x ∷ xs) ys key q apart_from e = elim (key_is x.key key) [
+  | inl same ↦ absurd (apart_from (inl (sym (key_same x.key key same))))
+  | inr other ↦ behind xs ys key q (λ h. apart_from (inr h)) (subst (λ (rs : List Rect). covers rs q ≡ true) (own_past x (xs ++ ys) key other) e)
 ]
 
 module _ (own : OwnLaw) (depth : DepthLaw) (d e : Linked) (s : Stage) (ss : List Stage) (further : List (Vec OwnLayer)) (are : AreFurther d.cells (stage_keys (s ∷ ss)) further) (made : IsLayeredDesign d (stage_keys (s ∷ ss)) further e)

@@ -27,10 +27,10 @@ staged_texts (s ∷ ss) d e st cell t =
     let one = st.1.same.texts cell t in ((λ h. one.0 (rest.0 h)), (λ h. rest.1 (one.1 h)))
 
 pub staged_own : (ss : List Stage) (d e : Design) (key : LayerKey) → IsStaged d ss e → (IsKeyOf ss key → ⊥) → (cell : ℕ) (q : Square) → IsOwn e cell key q ↔ IsOwn d cell key q
-staged_own [] d e key st no cell q = ((λ h. subst (λ (x : Design). IsOwn x cell key q) (sym st) h), (λ h. subst (λ (x : Design). IsOwn x cell key q) st h))
-staged_own (s ∷ ss) d e key st no cell q =
-    let rest = staged_own ss st.0 e key st.3 (λ k. no (inr k)) cell q in
-    let one = st.1.same.own cell key q (λ is. no (inl (sym is))) in ((λ h. one.0 (rest.0 h)), (λ h. rest.1 (one.1 h)))
+staged_own [] d e key st apart_from cell q = ((λ h. subst (λ (x : Design). IsOwn x cell key q) (sym st) h), (λ h. subst (λ (x : Design). IsOwn x cell key q) st h))
+staged_own (s ∷ ss) d e key st apart_from cell q =
+    let rest = staged_own ss st.0 e key st.3 (λ k. apart_from (inr k)) cell q in
+    let one = st.1.same.own cell key q (λ is. apart_from (inl (sym is))) in ((λ h. one.0 (rest.0 h)), (λ h. rest.1 (one.1 h)))
 
 pub reached_back : (ss : List Stage) (d e : Design) → IsStaged d ss e → (cell : ℕ) → IsReached e cell → IsReached d cell
 reached_back [] d e st cell h = subst (λ (x : Design). IsReached x cell) (sym st) h

@@ -92,20 +92,20 @@ pub fn deepest(depths: &[usize]) -> usize
     }
 }
 
-/// The selections of a depth in the order of the file, by the names' depths. Linear.
+/// The selections of a depth in the order of the file, by the known depths of the names. Linear.
 pub fn at_depth(
     alloc: Global,
     rules: &RuleSet,
-    depths: &[usize],
+    known: &[usize],
     depth: usize,
 ) -> Result<Vec<SelectRule>, AllocError>
-    requires { depths.now ≡ depths (rules_seen rules.now) }
+    requires { known.now ≡ depths (rules_seen rules.now) }
     ensures is { IfOk result (λ v. v.items ≡ at_depth (rules_seen rules.now) depth) }
     ensures of { IfOk result (λ v. AreSelectsOf (rules_seen rules.now) v.items) }
 {
     let mut found = Vec::new(alloc);
     for select in &rules.selects {
-        if depth_at(depths, select.name) == depth {
+        if depth_at(known, select.name) == depth {
             found.push(*select)?;
         }
     }
