@@ -1,17 +1,13 @@
 //! The design with the rules' selections as further layers.
 #![tactic(auto)]
 
-ghost use Rattle.std.specs.Prelude.{◌≡◌, ℕ, Some, IfOk};
+ghost use Rattle.std.specs.Prelude.{IfOk};
 ghost use Rattle.cell_graph.specs.Layering.{HaveNames};
-ghost use Rattle.cell_graph.specs.Linked.{layer_keys};
-ghost use Rattle.cell_graph.specs.declared.cells.CellPart.{CellPart};
-ghost use Rattle.geo_base.specs.declared.layer.LayerKey.{LayerKey};
-ghost use Rattle.plain_netlist.specs.Lists.{IsListed};
 ghost use Rattle.rule_stages.specs.Stages.{stages_of};
 ghost use Rattle.rule_text.specs.Seen.{rules_seen};
 ghost use Rattle.rule_text.specs.Sound.{IsSound};
-ghost use Rattle.select_laws.specs.Staged.{IsKeyOf};
-ghost use Rattle.staged_layouts.specs.Staged.{AreUnused, IsStagedDesign};
+ghost use Rattle.select_flow.specs.Unused.{AreUnused};
+ghost use Rattle.staged_layouts.specs.Staged.{IsStagedDesign};
 
 use cell_graph::{Design, LinkFault};
 use job_board::{Crew, Gate};
