@@ -10,4 +10,4 @@ mod wide;
 
 pub use laws::same_places;
 pub use shapes::shapes_text;
-pub use wide::wide_cell;
+pub use wide::{is_far_out, wide_cell};

@@ -127,7 +127,9 @@ fn is_long(z: i64) -> bool
     -LONG <= z && z < LONG
 }
 
-fn is_far_out(design: &Design, reach: u32, cell: u32) -> bool
+/// Whether a cell's hull, which holds a square, has a side outside plus or minus 2^36 once it is grown
+/// by so many squares. O(1).
+pub fn is_far_out(design: &Design, reach: u32, cell: u32) -> bool
     requires inside { cell < length design.now.cells }
     ensures { Decides result (IsFarOut (plain design.now) reach cell) }
 {

@@ -1,1 +1,2 @@
+pub mod Far
 pub mod RunLayout

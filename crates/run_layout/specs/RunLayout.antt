@@ -11,7 +11,8 @@ use Rattle.rule_layers.specs.Meaning.{way_of}
 use Rattle.rule_stages.specs.Stages.{stages_of}
 use Rattle.rule_text.specs.Rules.{Rules}
 use Rattle.rule_text.specs.Sound.{IsSound}
-use Rattle.staged_layouts.specs.Staged.{IsFirstFar, IsNear, IsStagedLayout, ShowsSelections}
+use Rattle.run_layout.specs.Far.{IsFirstFar, IsNear}
+use Rattle.staged_layouts.specs.Staged.{IsStagedLayout, ShowsSelections}
 
 -- what these bytes are read as from the top, whose cells keep squares in the rules' way
 pub record IsDrawnLayout (bytes : List ℕ) (top : Option (List ℕ)) (r : Rules) (l : Layout) : Type 0
@@ -21,12 +22,12 @@ pub record IsDrawnLayout (bytes : List ℕ) (top : Option (List ℕ)) (r : Rules
     pub rules : IsSound r
 
 -- with the rules' selections as further layers, which show the flat selections; no hull, grown as
--- far as these reach, leaves the range
+-- far as these may reach, leaves the range
 pub record IsRunLayout (bytes : List ℕ) (top : Option (List ℕ)) (r : Rules) (l : Layout) : Type 0
   where
     pub drawn : Layout
     pub is : IsDrawnLayout bytes top r drawn
-    pub near : IsNear (stages_of r) drawn
+    pub near : IsNear r drawn
     pub staged : IsStagedLayout (stages_of r) drawn l
     pub shows : ShowsSelections (stages_of r) drawn l
 
@@ -35,7 +36,7 @@ pub record IsTooFar (bytes : List ℕ) (top : Option (List ℕ)) (r : Rules) (na
   where
     pub drawn : Layout
     pub is : IsDrawnLayout bytes top r drawn
-    pub far : IsFirstFar (stages_of r) drawn name
+    pub far : IsFirstFar r drawn name
 
 -- the fault of the bytes; where they have none, that of the selections
 abbrev pub IsRunFault : List ℕ → Option (List ℕ) → Rules → LayoutFault → Type 0

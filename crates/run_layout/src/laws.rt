@@ -6,7 +6,7 @@ ghost use Rattle.run_layout.specs.RunLayout.{RunFitsLaw};
 use gds_layout::one_layout;
 use rule_stages::stages;
 use shapes_file::writable;
-use staged_layouts::{staged, stagings};
+use staged_layouts::staged;
 
 /// The layout on which a run works is one, or there is one fault, want of memory apart; it fits a
 /// stream.
@@ -20,5 +20,4 @@ pub fn run_layouts()
     writable();
     stages();
     staged();
-    stagings();
 }

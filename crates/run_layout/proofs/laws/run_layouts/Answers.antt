@@ -4,7 +4,7 @@ use Rattle.run_layout.proofs.laws.run_layouts.Goals as goal
 pub returns : goal.returns
 returns c = record {
   layout = one_run c.one_layout.ensures.layout c.stages.ensures.turn c.staged.ensures.alike;
-  apart = no_fault c.one_layout.ensures.layout c.one_layout.ensures.apart c.stagings.ensures.far;
-  fault = one_fault c.one_layout.ensures.layout c.one_layout.ensures.apart c.one_layout.ensures.fault c.stagings.ensures.far;
+  apart = no_fault c.one_layout.ensures.layout c.one_layout.ensures.apart;
+  fault = one_fault c.one_layout.ensures.layout c.one_layout.ensures.apart c.one_layout.ensures.fault;
   fits = fits c.writable.ensures c.staged.ensures.fits;
 }
