@@ -171,10 +171,13 @@ def take_rules(data):
         raise Refused(b"refused rules %d %s %d" % (fault.number, word, fault.place)) from None
 
 
-def take_layout(data, top):
-    """The linked layout, or the refusal."""
+def take_layout(data, top, rule_set=None):
+    """The linked layout, with the rules' selections, or the refusal."""
     try:
-        return layout.Layout(gds.read_library(data), top)
+        design = layout.Layout(gds.read_library(data), top)
+        if rule_set:
+            selections.stage(design, rule_set)
+        return design
     except gds.GdsFault as fault:
         raise Refused(b"refused layout %d record %d offset %d" % (
             fault.number, fault.index, fault.offset)) from None
@@ -234,8 +237,7 @@ def _work(command, files):
     rule_set = take_rules(rule_text)
     if command.word != "make":
         stream = _input(files, command.path("layout"))
-    design = take_layout(stream, command.top)
-    selections.stage(design, rule_set)
+    design = take_layout(stream, command.top, rule_set)
     schematic = None
     if command.word == "run":
         schematic_text = _input(files, command.path("schematic"))

@@ -7,7 +7,8 @@ that path lies within the names' reach and one square of it, on a layer that the
 """
 
 from layers import Deep
-from rules import Rules
+from layout import REACH, LinkFault
+from rules import MOST_REACH, Rules
 from squares import around, canon, clip, grown
 
 LAYER = 65536
@@ -88,8 +89,17 @@ def _fill(layout, rules, select):
             layout.own[cell][LAYER, select.name] = canon(chosen)
 
 
+def _refuse_far(layout, reach):
+    """Refuses a cell whose hull, grown so far, leaves the range."""
+    for k, hull in enumerate(layout.hulls):
+        solid = reach and hull and hull[0] < hull[2] and hull[1] < hull[3]
+        if solid and (min(hull[:2]) - reach < -REACH or max(hull[2:]) + reach > REACH):
+            raise LinkFault(25, layout.names[k])
+
+
 def stage(layout, rules):
     """Gives a layout the layers of all selections, in turn, and its cells their hulls anew."""
+    _refuse_far(layout, MOST_REACH * len(rules.selects))
     for select in rules.selects:
         _fill(layout, rules, select)
     if rules.selects:
