@@ -4,7 +4,7 @@ import gds
 from layout import rectangle_records, reference_records, short, xy
 
 UNITS = bytes.fromhex("3E4189374BC6A7F0" "3944B82FA09B5A54")
-RULES = b"""nwell = input(1, 0)
+PLAIN = b"""nwell = input(1, 0)
 active = input(2, 0)
 poly = input(3, 0)
 contact = input(4, 0)
@@ -35,6 +35,7 @@ connect_global(ptie, "VSS")
 psd.output(10, 0)
 nsd.output(11, 0)
 """
+RULES = PLAIN + b"keep_covered\nflatten_unmatched\n"
 
 INVERTER = [
     (1, (0, 1500, 1000, 3000)),

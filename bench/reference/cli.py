@@ -7,6 +7,7 @@ import gds
 import layout
 import report
 import rules
+import selections
 import spice
 import turns
 from circuits import Extracted
@@ -234,6 +235,7 @@ def _work(command, files):
     if command.word != "make":
         stream = _input(files, command.path("layout"))
     design = take_layout(stream, command.top)
+    selections.stage(design, rule_set)
     schematic = None
     if command.word == "run":
         schematic_text = _input(files, command.path("schematic"))

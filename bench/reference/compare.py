@@ -100,6 +100,7 @@ def main():
     parser.add_argument("command", nargs="?", default="any")
     parser.add_argument("--faulty")
     parser.add_argument("--covered", action="store_true", help="all rules have keep_covered")
+    parser.add_argument("--selected", action="store_true", help="all rules choose regions")
     parser.add_argument("--keep")
     parser.add_argument("--most", type=int, default=5, help="differing cases to print")
     options = parser.parse_args()
@@ -110,7 +111,8 @@ def main():
         command.insert(0, sys.executable)
     kinds, differing = collections.Counter(), 0
     for seed in range(options.seed0, options.seed0 + options.count):
-        words, files = gen.generate(seed, options.command, options.faulty, options.covered)
+        words, files = gen.generate(seed, options.command, options.faulty, options.covered,
+                                    options.selected)
         ours = None
         try:
             ours = reference(words, files)

@@ -1,5 +1,5 @@
 #!/usr/bin/env python3
-"""Checks the reference against itself: `flatcheck.py COUNT SEED0 [covered]`.
+"""Checks the reference against itself: `flatcheck.py COUNT SEED0 [covered] [selected]`.
 
 For random layouts the written layers, expanded, must cover the flat layers, and the netlist of
 all cells must match the netlist of the same layout made of one cell.
@@ -11,6 +11,7 @@ import cli
 import gds
 import gen
 import match
+import selections
 from align import align
 from circuits import Extracted
 from layers import all_paths
@@ -34,9 +35,9 @@ def flattened(design):
     return Layout(library, None)
 
 
-def problems(seed, covered):
+def problems(seed, covered, selected):
     """What is wrong for one seed."""
-    words, files = gen.generate(seed, "run", covered=covered)
+    words, files = gen.generate(seed, "run", covered=covered, selected=selected)
     top = next((w[6:] for w in words if w.startswith("--top=")), None)
     if "--top" in words:
         top = words[words.index("--top") + 1]
@@ -45,8 +46,11 @@ def problems(seed, covered):
         rules = cli.take_rules(files["r.lvs"])
     except cli.Refused:
         return []
+    one = flattened(design)
+    selections.stage(design, rules)
+    selections.stage(one, rules)
     deep = Extracted(design, rules)
-    flat = Extracted(flattened(design), rules)
+    flat = Extracted(one, rules)
     out = []
     paths = list(all_paths(design, design.top))
     for name, form in enumerate(rules.forms):
@@ -74,7 +78,7 @@ def main(words):
     """Checks so many seeds."""
     count, first, wrong = int(words[0]), int(words[1]), 0
     for seed in range(first, first + count):
-        found = problems(seed, words[2:] == ["covered"])
+        found = problems(seed, "covered" in words[2:], "selected" in words[2:])
         if found:
             wrong += 1
             print("seed %d: %s" % (seed, "; ".join(found)))

@@ -11,6 +11,7 @@ import random
 import sys
 
 import cli
+import selections
 from circuits import Extracted
 from genlayout import Maker, placements
 from gentext import RuleMaker, SchematicMaker, flatten_lines, same_lines
@@ -40,6 +41,12 @@ RULE_LINES = [b"a.width(10)", b"poly = input(1, 0)", b"x = in1 & zz", b"x = txt 
               b"same_pins", b"same_pins()", b"same_pins = in1 & in1",
               b"keep_covered", b"keep_covered()", b"keep_covered = in1 & in1",
               b"flatten_circuit('A')", b"flatten_circuit = input(9, 1)",
+              b"s = in1.interacting(in2)", b"s = in1.not_outside(in1) # x", b"s = in1.inside(zz)",
+              b"s = txt.overlapping(txt)", b"s = in1.interacting(in2, 2)", b"s = in1.covering(in2)",
+              b"s = in1.with_area(0, nil)", b"s=in1 . without_area( nil,123456789012345678 )",
+              b"s = in1.with_area(nil)", b"s = in1.with_area(nil, nil)", b"s = in1.with_area(0.5)",
+              b"s = in1.with_area(1234567890123456789)", b"in1 = in1.inside(in2)",
+              b"s = in1.not_with_area(3)", b"s = in1.inside(in2) & in1", b"inside = in1.inside(in1)",
               b"netlist.output(1, 0)", b"schematic.flatten_circuit('b') x",
               b"x = in1 & input", b"in1 = in1 & in1", b"x = in1 &", b"x = & in1", b"x == in1"]
 SPICE_LINES = [b"m1 a b c d n l=1u w=1u", b"M a b c d n l=1u w=1mil", b"x1 a b", b"x1",
@@ -172,8 +179,9 @@ def _paths_fit(data, tops):
     return all(placements(data, top) <= MOST_PATHS for top in tops)
 
 
-def generate(seed, command="any", faulty=None, covered=False):
-    """The words and the files of one case; `covered`: its rules have `keep_covered`."""
+def generate(seed, command="any", faulty=None, covered=False, selected=False):
+    """The words and the files of one case; `covered`: its rules have `keep_covered`, `selected`:
+    they choose regions."""
     rng = random.Random("%s/%s/%s" % (seed, command, faulty))
     if command == "any":
         command = rng.choice(["shapes", "extract", "run", "run"])
@@ -198,6 +206,9 @@ def generate(seed, command="any", faulty=None, covered=False):
     if covered or keeping.random() < 0.3:
         maker.share(keeping)
         rules.lines.insert(keeping.randint(0, len(rules.lines)), b"keep_covered")
+    choosing = random.Random("selected/%s" % seed)
+    if selected or choosing.random() < 0.2:
+        rules.choose(choosing)
     stream, top = maker.stream(), None
     plain = all(32 < b < 127 for b in maker.cells[-1].name)
     if command != "shapes" and plain and (len(maker.unplaced()) > 1 or rng.random() < 0.2):
@@ -253,6 +264,7 @@ def _schematic(rng, stream, top, rules):
         rule_set = cli.take_rules(b"\n".join(rules.lines))
     except cli.Refused:
         return EMPTY
+    selections.stage(design, rule_set)
     circuits = Extracted(design, rule_set).circuits
     maker = SchematicMaker(rng, circuits)
     while rng.random() < (0.1 if rules.lines[0].startswith(b"active") else 0.4):

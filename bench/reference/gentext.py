@@ -10,6 +10,20 @@ NOISE = [b"deep", b"netlist", b"align", b"compare", b"schematic('x.cir')", b"# a
 PASSED = [b"\n", b"*\n", b".model n nmos (level=1)\n", b".option a\n"]
 
 
+def _asked(rng, names):
+    """What a selection asks: a word with another name, or an area."""
+    if rng.random() < 0.7:
+        word = rng.choice([b"interacting", b"overlapping", b"inside", b"outside"])
+        return rng.choice([b"", b"", b"not_"]) + b"%s(%s)" % (word, rng.choice(names))
+    bounds = sorted(rng.choice([0, 1, 2, 4, 9, 20, 100, 2500, 62500]) for _ in range(2))
+    given = [b"%d" % bound for bound in bounds]
+    if rng.random() < 0.3:
+        given[rng.randrange(2)] = b"nil"
+    elif rng.random() < 0.3:
+        given.pop()
+    return rng.choice([b"with_area", b"without_area"]) + b"(%s)" % b", ".join(given)
+
+
 class RuleMaker:
     """Makes the lines of a rule file."""
 
@@ -182,6 +196,32 @@ class RuleMaker:
         else:
             other = rng.choice([b"txt", b"txt", b"metal", b"contact"])
             add(b"connect(%s, %s)" % (name, other))
+
+    def choose(self, rng):
+        """Selections over what is there, in front of the devices, which may read them; names and
+        outputs over them."""
+        at = next((k for k, line in enumerate(self.lines) if line.startswith(b"extract_devices")),
+                  len(self.lines))
+        known = [line.split()[0] for line in self.lines[:at]
+                 if b" = " in line and b"labels" not in line]
+        gates = [name for name in known if name.endswith(b"gate")]
+        added, chosen = [], []
+        for k in range(rng.randint(1, 3)):
+            region = rng.choice(gates if gates and rng.random() < 0.5 else known + chosen)
+            chosen.append(b"s%d" % k)
+            added.append(b"s%d = %s.%s" % (k, region, _asked(rng, known + chosen[:-1])))
+            if region in gates and rng.random() < 0.7:
+                self.lines = [line.replace(b'"G" => ' + region, b'"G" => ' + chosen[-1])
+                              for line in self.lines]
+        for k in range(rng.randint(0, 2)):
+            one, other = rng.choice(chosen), rng.choice(known + chosen)
+            right = (b"%s.sized(%d)" % (one, rng.choice([1, 2, -1])) if rng.random() < 0.4 else
+                     b"%s %s %s" % (one, rng.choice([b"&", b"|", b"-", b"^"]), other))
+            added.append(b"t%d = %s" % (k, right))
+            chosen.append(b"t%d" % k)
+        self.lines[at:at] = added
+        for k, name in enumerate(rng.sample(chosen, rng.randint(0, len(chosen)))):
+            self.lines.append(b"%s.output(%d, 0)" % (name, 30 + k))
 
     def text(self):
         """The file."""

@@ -89,7 +89,7 @@ class Layout:
         self.own = [self._own(cell) for cell in library.cells]
         self.hulls = [None] * len(self.names)
         for k in sorted(range(len(self.names)), key=lambda k: (self.heights[k], k)):
-            self.hulls[k] = hull = self._hull(k)
+            self.hulls[k] = hull = self.hull(k)
             if hull and max(map(abs, hull)) > REACH:
                 raise LinkFault(25, self.names[k])
         reached = self._below(self.top)
@@ -167,7 +167,7 @@ class Layout:
             rects.setdefault(key, []).extend(fill(form))
         return {key: canon(some) for key, some in rects.items() if some}
 
-    def _hull(self, cell):
+    def hull(self, cell):
         """The least range of the cell's points, also one without width or height; or None."""
         boxes = [r for rects in self.own[cell].values() for r in rects]
         boxes += [at + at for _, at, _ in self.library.cells[cell].texts]

@@ -10,6 +10,12 @@ TOKEN = re.compile(rb"""(?P<name>[A-Za-z0-9_]+)
                       | (?P<mark>=> | [-=.(){},&|^])""", re.VERBOSE)
 NAME = re.compile(rb"[a-z_][A-Za-z0-9_]{0,63}")
 NUMBER = re.compile(rb"[0-9]{1,7}")
+AREA = re.compile(rb"[0-9]{1,18}")
+RELATIONS = {b"interacting": ("interacting", False), b"not_interacting": ("interacting", True),
+             b"overlapping": ("overlapping", False), b"not_overlapping": ("overlapping", True),
+             b"inside": ("inside", False), b"not_inside": ("inside", True),
+             b"outside": ("outside", False), b"not_outside": ("outside", True)}
+MEASURES = {b"with_area": False, b"without_area": True}
 OPERATORS = {b"&": "and", b"|": "or", b"-": "not", b"^": "xor"}
 WORDS = {b"connect", b"connect_global", b"extract_devices", b"same_circuits", b"max_guesses",
          b"deep", b"netlist", b"align", b"compare", b"schematic", b"input", b"labels",
@@ -35,15 +41,25 @@ class Device:
         self.kind, self.device_class, self.layers, self.line = kind, device_class, layers, line
 
 
+class Select:
+    """A selection: the number of its name, what is asked of which regions and of which other name,
+    and whether those are chosen that don't have it."""
+
+    def __init__(self, name, ask, others, region, other):
+        self.name, self.ask, self.others = name, ask, others
+        self.region, self.other = region, other
+
+
 class Rules:
     """What a rule file states.  Names go by their number from 0.
 
     `forms` has per name ("input", key), ("labels", key), ("empty",), (operator, a, b) or
-    ("sized", a, d).  `devices` has the transistors first, then the further devices.
+    ("sized", a, d); a selection reads as the input of layer 65536 and its number.  `devices` has
+    the transistors first, then the further devices.
     """
 
     def __init__(self):
-        self.names, self.forms, self.outputs = [], [], []
+        self.names, self.forms, self.outputs, self.selects = [], [], [], []
         self.connects, self.globals, self.devices, self.same = [], [], [], []
         self.max_guesses = 1000
         self.flat = (set(), set())
@@ -221,7 +237,9 @@ class _Reader:
         if first == b"polygon_layer" and mark == (None, None):
             return ("empty",)
         if mark == ("mark", b"."):
-            return ("sized", first, _Reader._size(tokens))
+            if tokens.peek(1) == ("name", b"sized"):
+                return ("sized", first, _Reader._size(tokens))
+            return ("select", first) + _Reader._asked(tokens, first)
         operator = tokens.take()
         if operator[0] != "mark" or operator[1] not in OPERATORS:
             raise _NoFit()
@@ -240,6 +258,42 @@ class _Reader:
         size = tokens.number(1, MOST_REACH)
         tokens.mark(b")")
         return -size if minus else size
+
+    @staticmethod
+    def _asked(tokens, region):
+        """The other name, what is asked, and whether the others are chosen."""
+        tokens.mark(b".")
+        word = tokens.name()
+        tokens.mark(b"(")
+        if word in RELATIONS:
+            ask, others = RELATIONS[word]
+            found = (tokens.name(), (ask,), others)
+        elif word in MEASURES:
+            found = (region, _Reader._range(tokens), MEASURES[word])
+        else:
+            raise _NoFit()
+        tokens.mark(b")")
+        return found
+
+    @staticmethod
+    def _range(tokens):
+        bounds = [_Reader._bound(tokens)]
+        if tokens.peek() == ("mark", b","):
+            tokens.take()
+            bounds.append(_Reader._bound(tokens))
+        if bounds in ([None], [None, None]):
+            raise _NoFit()
+        low, high = bounds if len(bounds) == 2 else (bounds[0], bounds[0] + 1)
+        return ("area", low or 0, high)
+
+    @staticmethod
+    def _bound(tokens):
+        kind, found = tokens.take()
+        if (kind, found) == ("name", b"nil"):
+            return None
+        if kind != "name" or not AREA.fullmatch(found):
+            raise _NoFit()
+        return int(found)
 
     def _statement(self, tokens):
         word = tokens.name()
@@ -403,7 +457,8 @@ class _Reader:
 
     def _define(self, name, form):
         rules, word = self.rules, form[0]
-        operands = {"input": (), "labels": (), "empty": (), "sized": form[1:2]}
+        operands = {"input": (), "labels": (), "empty": (), "sized": form[1:2],
+                    "select": form[1:3]}
         operands = operands.get(word, form[1:])
         if operands:
             numbers = self._find(*operands)
@@ -413,10 +468,17 @@ class _Reader:
             raise RuleFault(33, None)
         if operands:
             self._layers(*operands)
-            form = (word, *numbers) + (form[2:] if word == "sized" else ())
+            if word == "sized":
+                form = (word, numbers[0], form[2])
+            elif word != "select":
+                form = (word, *numbers)
         if len(rules.names) == NAME_LIMIT:
             raise RuleFault(35, None)
-        self.number_of[name] = len(rules.names)
+        number = len(rules.names)
+        if word == "select":
+            rules.selects.append(Select(number, form[3], form[4], *numbers))
+            form = ("input", (65536, number))
+        self.number_of[name] = number
         rules.names.append(name)
         rules.forms.append(form)
 

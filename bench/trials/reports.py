@@ -70,10 +70,10 @@ M2 Y A VSS VSS NMOS L=0.1U W=0.5U
 
 
 def cases(trials):
-    chip = ("chip.gds", "chip.lvs", "chip.cir")
+    chip = ("chip.gds", tools.in_place(trials), "chip.cir")
     width = ("W=0.5U", "W=0.6U")
     names, wide = ("INV", "NOT"), ("NMOS L=0.1U W=1U", "NMOS L=0.1U W=2U")
-    pairs = trials.put("pairs.lvs", trials.text("chip.lvs")
+    pairs = trials.put("pairs.lvs", trials.text("place.lvs")
                        + 'same_circuits("INV", "NOT")\nsame_circuits("INV2", "NOT2")\n')
     many = "".join(line + "\n" for line in trials.text("few.lvs").split("\n") if "max_guesses" not in line)
     return [
@@ -141,7 +141,7 @@ def try_all(trials):
 
 
 def with_line(trials, name, line):
-    return trials.put(name, trials.text("chip.lvs") + line + "\n")
+    return trials.put(name, trials.text("place.lvs") + line + "\n")
 
 
 def try_summaries(trials):
@@ -196,19 +196,18 @@ def try_lines(trials, text):
     for old, new in [(b"I0", b"??"), (b"O0", b"I0"), (b"??", b"O0")]:
         data = data.replace(mark + old, mark + new)
     trials.put("swapped.gds", data)
-    trials.expect("exchanged labels", 0, trials.compare("swapped.gds", "chip.lvs", "chip.cir")[0])
+    trials.expect("exchanged labels", 0, trials.compare("swapped.gds", "place.lvs", "chip.cir")[0])
     pins = with_line(trials, "pins.lvs", "same_pins")
     trials.expect("by same_pins", 1, trials.compare("swapped.gds", pins, "chip.cir")[0])
     trials.expect("the right chip by same_pins", 0, trials.compare("chip.gds", pins, "chip.cir")[0])
-    apart = with_line(trials, "apart.lvs", "flatten_unmatched")
     trials.expect("a width by flatten_unmatched",
                   (1, ["apart INV INV differs", "round 0 of layout device 2 layout 1 schematic 0"]),
-                  (trials.compare("chip.gds", apart, "width.cir")[0], told(trials.text("out.txt").split("\n"))[:2]))
+                  (trials.compare("chip.gds", "chip.lvs", "width.cir")[0], told(trials.text("out.txt").split("\n"))[:2]))
     trials.expect_said(text, "apart INV INV differs round 0 of layout device 2 layout 1 schematic 0")
 
 
 def joined_nodes(trials, layout, schematic):
-    trials.compare(layout, "chip.lvs", schematic)
+    trials.compare(layout, "place.lvs", schematic)
     block = trials.text("out.txt").split("pair ROW0 ROW0 match\n")[-1].split("pair ")[0].split("\n")
     return [line for line in block if line.startswith(("device ", "call "))]
 

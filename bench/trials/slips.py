@@ -73,6 +73,7 @@ def put_shared(trials):
     """the files that rows name"""
     trials.put("one.gds", refusals.joined(cell("A", square(0, 0, 10, 10))))
     trials.put("one.lvs", refusals.RULES)
+    tools.in_place(trials)
     trials.put("layer.lvs", trials.text("chip.lvs").replace("input(3, 0)", "input(33, 0)"))
     trials.put("width.cir", trials.text("chip.cir").replace("W=0.5U", "W=0.6U", 1))
     trials.put("scale.cir", ".OPTION SCALE=1U\n" + trials.text("chip.cir"))

@@ -72,6 +72,12 @@ class Trials:
             self.differed.append(f"the document doesn't say: {words}")
 
 
+def in_place(trials):
+    """The rules of the chip that was made, by which each pair is told where it stands."""
+    lines = trials.text("chip.lvs").split("\n")
+    return trials.put("place.lvs", "\n".join(line for line in lines if line != "flatten_unmatched"))
+
+
 def document(name):
     with open(os.path.join(TOP, name), encoding="utf-8") as file:
         return file.read()

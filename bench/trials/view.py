@@ -2,7 +2,7 @@
 import gds
 import tools
 
-CHIP = ["--layout", "chip.gds", "--rules", "chip.lvs", "--schematic"]
+CHIP = ["--layout", "chip.gds", "--rules", "place.lvs", "--schematic"]
 REFUSED = [
     (CHIP[:4], "refused words"),
     (CHIP + ["chip.cir"], "refused words"),
@@ -26,6 +26,7 @@ def far_chip(trials):
 def try_all(trials):
     text, formats = tools.document("docs/FROM_KLAYOUT.md"), tools.document("docs/FORMATS.md")
     trials.expect("make", (0, "match cells 4 circuits 4 pairs 4 bad 0"), trials.run("make", "3", "1", "1", "chip"))
+    tools.in_place(trials)
     trials.put("width.cir", trials.text("chip.cir").replace("W=0.5U", "W=0.6U", 1))
     far_chip(trials)
     for words, line in REFUSED:
@@ -35,8 +36,8 @@ def try_all(trials):
     trials.expect("another width", (1, "view mismatch circuits 4 pairs 4 bad 0"), wrong)
     trials.expect_said(tools.section(text, "## A mismatch, step by step"), wrong[1])
     page = trials.text("chip.txt").split("\n")
-    trials.expect("the page's lines", 4, len(page))
-    for line in page[1:3]:
+    trials.expect("the page's lines", 5, len(page))
+    for line in page[2:4]:
         trials.expect_said(tools.section(text, "## A mismatch, step by step"), line)
     trials.expect_said(tools.section(formats, "## The netlist browser's database"), page[0])
     lines = trials.text("chip.lvsdb").split("\n")

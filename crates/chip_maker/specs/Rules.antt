@@ -1,4 +1,4 @@
--- The rules that extract a chip's transistors and nets.
+-- The rules that extract a chip's transistors and nets, and how these are compared.
 use Rattle.std.specs.Prelude.{ℕ, List, ◌++◌, codes}
 
 -- the layers that are drawn
@@ -38,5 +38,11 @@ connect_rules =
 abbrev pub output_rules : List ℕ
 output_rules = codes "psd.output(10, 0)\n" ++ codes "nsd.output(11, 0)\n"
 
+-- cells keep what they draw themselves, and what still differs is compared flatter
+abbrev pub way_rules : List ℕ
+way_rules = codes "keep_covered\n" ++ codes "flatten_unmatched\n"
+
 abbrev pub chip_rules : List ℕ
-chip_rules = input_rules ++ (derived_rules ++ (device_rules ++ (connect_rules ++ output_rules)))
+chip_rules =
+    input_rules ++ (derived_rules ++ (device_rules ++ (connect_rules
+    ++ (output_rules ++ way_rules))))

@@ -47,7 +47,12 @@ const OUTPUTS: &[u8] = b"psd.output(10, 0)
 nsd.output(11, 0)
 ";
 
-/// The rules that extract a chip's transistors and nets.
+const WAYS: &[u8] = b"keep_covered
+flatten_unmatched
+";
+
+/// The rules that extract a chip's transistors and nets, and how cells keep squares and pairs are
+/// compared.
 pub fn rules_text(alloc: Global) -> Result<Vec<u8>, AllocError>
     ensures { IfOk result (λ text. text.items ≡ chip_rules) }
 {
@@ -57,5 +62,6 @@ pub fn rules_text(alloc: Global) -> Result<Vec<u8>, AllocError>
     out.extend_from_slice(DEVICES)?;
     out.extend_from_slice(CONNECTIONS)?;
     out.extend_from_slice(OUTPUTS)?;
+    out.extend_from_slice(WAYS)?;
     Ok(out)
 }

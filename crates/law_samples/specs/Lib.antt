@@ -9,3 +9,4 @@ pub mod Matched
 pub mod Combined
 pub mod Kinds
 pub mod Taken
+pub mod Shrunk

@@ -14,7 +14,7 @@ mod layout;
 
 pub use chain::{first_faults, flattened_and_matched};
 pub use headline::{combined_layout, matched_layout};
-pub use kinds::named_kinds;
+pub use kinds::{named_kinds, shrunk_kinds};
 pub use latch::latch_swapped;
 pub use layout::{
     sample_circuits, sample_devices, sample_gates, sample_nets, sample_refusals, sample_transistors,

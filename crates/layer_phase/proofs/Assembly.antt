@@ -85,7 +85,7 @@ layer n d name cell places flat zone calm local derived twice sound reached zone
         let f = (parts.flats q).0 s.0 in
         new_local (plain d) cell name q derived (
           keeps (plain d) cell name q (f.1, calm_zone q s.1 f.1),
-          λ h. not_both (covers calm q) ((parts.calms q f.0).1 (below_held d name cell q derived sound h)) s.2,
+          λ h. not_both (covers calm q) ((parts.calms q s.0 s.1).1 (below_held d name cell q derived sound h)) s.2,
         )
 
     looked : (q : Square) → IsKept (plain d) cell name q → (covers places q ≡ true) ⊎ IsKeptBelow (plain d) cell name q
@@ -100,30 +100,24 @@ layer n d name cell places flat zone calm local derived twice sound reached zone
       ]
     ]
 
-    there : (q : Square) → IsKept (plain d) cell name q → covers places q ≡ true → covers calm q ≡ false → covers local q ≡ true
-    there q kept e c =
+    part : (q : Square) → IsKept (plain d) cell name q → (covers local q ≡ true) ⊎ IsKeptBelow (plain d) cell name q
+    part q kept =
         let k = calm_kept (plain d) cell name q derived kept in
-        made q ∙ join_local (covers flat q) (covers zone q) (covers calm q) ((parts.flats q).1 (e, k.0)) (zone_off q k.0 k.1) c
+        elim (looked q kept) [
+          | inr h ↦ inr h
+          | inl e ↦
+              let f = (parts.flats q).1 (e, k.0) in
+              let z = zone_off q k.0 k.1 in
+              elim (cases_Bool (covers calm q)) [
+                | inl c ↦ inr (calm_below q k.0 ((parts.calms q f z).0 c))
+                | inr c ↦ inl (made q ∙ join_local (covers flat q) (covers zone q) (covers calm q) f z c)
+              ]
+        ]
 
     from : (q : Square) → IsLocal (plain d) cell name q → covers local q ≡ true
     from q h =
         let new = local_new (plain d) cell name q derived h in
-        let f = kept_flat d cell name q new.0 in
-        elim (looked q new.0) [
+        elim (part q new.0) [
+          | inl e ↦ e
           | inr b ↦ absurd (new.1 b)
-          | inl e ↦ elim (cases_Bool (covers calm q)) [
-            | inl c ↦ absurd (new.1 (calm_below q f ((parts.calms q e).0 c)))
-            | inr c ↦ there q new.0 e c
-          ]
-        ]
-
-    part : (q : Square) → IsKept (plain d) cell name q → (covers local q ≡ true) ⊎ IsKeptBelow (plain d) cell name q
-    part q kept =
-        let f = kept_flat d cell name q kept in
-        elim (looked q kept) [
-          | inr h ↦ inr h
-          | inl e ↦ elim (cases_Bool (covers calm q)) [
-            | inl c ↦ inr (calm_below q f ((parts.calms q e).0 c))
-            | inr c ↦ inl (there q kept e c)
-          ]
         ]

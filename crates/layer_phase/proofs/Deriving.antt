@@ -108,7 +108,7 @@ record InputEntry (d : Linked) (r : Rules) (z : List (Option CellZones)) (names 
 module _ (d : Linked) (r : Rules) (z : List (Option CellZones)) (cell name : ℕ) (x : Formula) (looks squares zone calm : List Rect) (sound : IsSound d) (ready : IsReady d r z cell)
     (derived_name : IsDerived x) (at : slice_get (formulas r.names) name ≡ Some x) (seen : AreReadLooks (reach x) d z r.names name cell looks)
     (flat_in : (q : Square) → (covers squares q ≡ true) ↔ ((covers looks q ≡ true) × InFlat (plain d) cell x q))
-    (entry : IsZoneAt z cell name zone) (keeps : (q : Square) → (covers calm q ≡ true) ↔ ((covers looks q ≡ true) × IsKeptBy (reach x) d z cell name q)) where
+    (entry : IsZoneAt z cell name zone) (keeps : (q : Square) → covers squares q ≡ true → covers (around (reach x) zone) q ≡ false → (covers calm q ≡ true) ↔ IsKeptBy (reach x) d z cell name q) where
   twice : reach x + reach x ≤ zone_margin r.names
   twice = margin_twice r name x at
 
@@ -192,7 +192,7 @@ module _ (d : Linked) (r : Rules) (z : List (Option CellZones)) (cell name : ℕ
     stirred = open_seen;
     flats = flat_in;
     zones = λ q inner. calm_around (reach x) (zone_margin r.names) d (inputs x) cell zone q twice zone_here.0 (rects_of zone zone_here.1) (hull_sound d cell sound) inner;
-    calms = λ q e. let k = (tells d r z cell name x sound ready at asked twice).kept q in ((λ c. k.0 ((keeps q).0 c).1), (λ h. (keeps q).1 (e, k.1 h)));
+    calms = λ q f e. let k = (tells d r z cell name x sound ready at asked twice).kept q in ((λ c. k.0 ((keeps q f e).0 c)), (λ h. (keeps q f e).1 (k.1 h)));
   }
 
   pub derived : (local : List Rect) → IsCanonical local → ((q : Square) → covers local q ≡ ((covers squares q && not (covers (around (reach x) zone) q)) && not (covers calm q))) → IsLocalLayer (plain d) x cell local

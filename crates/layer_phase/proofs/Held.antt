@@ -22,7 +22,7 @@ use Rattle.rule_text.specs.declared.rules.LayerForm.TheVariants as form
 use Rattle.rule_text.specs.declared.rules.LayerRule.{LayerRule}
 use Rattle.layer_phase.specs.Looks.{AreHeld, AreNear, IsInput}
 
-listed_has : (rects : List Rect) (k : ℕ) (r : Rect) (q : Square) → k < length rects → has (slice_index_or rects k r) q ≡ true → covers rects q ≡ true
+pub listed_has : (rects : List Rect) (k : ℕ) (r : Rect) (q : Square) → k < length rects → has (slice_index_or rects k r) q ≡ true → covers rects q ≡ true
 listed_has [] k r q lt e = absurd (let z : ⊥ = omega arith in z)
 listed_has (x ∷ xs) zero r q lt e = or_left (has x q) (covers xs q) e
 listed_has (x ∷ xs) (suc k) r q lt e = or_right (has x q) (covers xs q) (listed_has xs k r q (omega arith) e)

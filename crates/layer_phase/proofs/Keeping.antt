@@ -1,6 +1,6 @@
 -- What placed cells keep, one visit after another.
-use Rattle.std.proofs.Common.{◌≡◌, inl, inr, ℕ, ◌<◌, ◌^◌, true, false, not, ◌&&◌, zero, suc, List, [], ◌∷◌, Option, Some, None, slice_index_or, length, sym, ◌∙◌, ap, subst, arith}
-use Rattle.std.proofs.lemmas.Bool.{and_parts, and_from, or_cases, or_left, or_right, not-true, not_from_false}
+use Rattle.std.proofs.Common.{◌≡◌, inl, inr, ℕ, ◌<◌, ◌^◌, true, false, not, ◌&&◌, List, Option, Some, None, slice_index_or, length, sym, ◌∙◌, ap, subst, arith}
+use Rattle.std.proofs.lemmas.Bool.{and_parts, and_from, or_cases, or_right, not-true, not_from_false}
 use Rattle.std.specs.List.{All}
 use Rattle.geo_base.specs.Near.{IsNearRect}
 use Rattle.geo_base.specs.Motions.{moved_square}
@@ -19,6 +19,7 @@ use Rattle.cell_context.proofs.Visiting.{inside_from, within_inside, near_rect, 
 use Rattle.cell_context.proofs.Gathering.{Adds, some_at}
 use Rattle.deep_tables.specs.declared.zones.CellZones.{CellZones}
 use Rattle.layer_phase.specs.Around.{around}
+use Rattle.layer_phase.proofs.Held.{listed_has}
 use Rattle.layer_phase.specs.Keeps.{HasEntry, HaveEntries, IsKeptBy, IsZoneAt}
 
 -- an entry with nothing near a square keeps the visit's image of it
@@ -78,11 +79,6 @@ all_there n d z cell name w out vs none brings found q g t =
     let m : moved_square v.motion t.square ≡ q = ap (λ (m : Motion). moved_square m t.square) s.2.motion ∙ t.image in
     let b = brings s.0 s.1 t.entry t.square (subst (λ c. IsZoneAt z c name t.entry) (sym s.2.cell) t.at) s.2.has t.off (subst (λ x. has w x ≡ true) (sym m) g) in
     subst (λ x. covers out x ≡ true) m b
-
-listed_has : (rects : List Rect) (k : ℕ) (r : Rect) (q : Square) → k < length rects → has (slice_index_or rects k r) q ≡ true → covers rects q ≡ true
-listed_has [] k r q lt e = absurd (let z : ⊥ = omega arith in z)
-listed_has (x ∷ xs) zero r q lt e = or_left (has x q) (covers xs q) e
-listed_has (x ∷ xs) (suc k) r q lt e = or_right (has x q) (covers xs q) (listed_has xs k r q (omega arith) e)
 
 -- rectangles of a calm part are near
 pub part_near : (n : ℕ) (z : List (Option CellZones)) (name : ℕ) (v : Visit) (keep : List Rect) → IsFrame v.window → HasEntry z v.cell name → IsCalmPart n z name v keep → All IsRect keep → All IsNearRect keep

@@ -24,7 +24,7 @@ pub record IsFromCalmHull (d : Linked) (name : Formula) (cell : ℕ) (q : Square
   pub image : moved_square place.motion square ≡ q
 
 -- squares that are looked at, the flat ones of these, those of the cell's grown hull near which not
--- all is shut, and those that placed cells keep
+-- all is shut, and those of the others that placed cells keep
 pub record AreParts (d : Linked) (name : Formula) (cell : ℕ) (places flat zone calm : List Rect) :
     Type 0 where
   pub own : (q : Square) → IsNearOwn (plain d) cell name q → covers places q ≡ true
@@ -34,8 +34,8 @@ pub record AreParts (d : Linked) (name : Formula) (cell : ℕ) (places flat zone
       × InFlat (plain d) cell name q)
   pub zones : (q : Square) → IsInGrown (reach name) (hull_of (cell_at d cell)) q
       → (covers zone q ≡ false) ↔ IsCalmAt (plain d) (inputs name) (reach name) cell q
-  pub calms : (q : Square) → covers places q ≡ true → (covers calm q ≡ true)
-      ↔ IsFromCalmHull d name cell q
+  pub calms : (q : Square) → covers flat q ≡ true → covers zone q ≡ false
+      → (covers calm q ≡ true) ↔ IsFromCalmHull d name cell q
 
 -- what the placed cells leave is told, in their hulls grown by n
 abbrev pub HaveZones : ℕ → Linked → Formula → ℕ → Type 0

@@ -1,8 +1,8 @@
 //! The squares of placed cells that have to be looked at, found once for each cell: those that it
 //! leaves for an input layer and that are flat on one. Everywhere else the placed cell keeps what
 //! lies there, or nothing lies there.
-ghost use Rattle.std.specs.Prelude.{◌≡◌, ◌<◌, ◌≤◌, ◌^◌, [], ◌++◌, ◌∷◌, ℕ, List, Some, length};
-ghost use Rattle.std.specs.Prelude.{◌⊎◌, slice_get, true, IfOk, IfSome, OnOk};
+ghost use Rattle.std.specs.Prelude.{◌≡◌, ◌<◌, ◌≤◌, ◌^◌, [], ◌++◌, ◌∷◌, List, Some, length};
+ghost use Rattle.std.specs.Prelude.{slice_get, true, IfOk, IfSome, OnOk};
 ghost use Rattle.std.specs.List.{All};
 ghost use Rattle.geo_base.specs.Near.{IsNearRect};
 ghost use Rattle.geo_base.specs.Rects.{IsRect, has};
@@ -23,6 +23,7 @@ ghost use Rattle.cell_context.specs.Placed.{Grows};
 ghost use Rattle.layer_phase.specs.Looks.{HaveDisturbed, HaveFlat, HoldDisturbed, IsListAt};
 
 use crate::grown::{sized, twice_around, twice_grown};
+use crate::squares::fewer;
 use crate::work::View;
 use cell_context::{collect_in, grown};
 use cell_graph::Design;
@@ -186,19 +187,9 @@ fn push_all_flat(
     Ok(())
 }
 
-// That of two sets which has fewer rectangles, the first where both have as many.
-fn fewer<'a>(one: &'a RectSet, other: &'a RectSet) -> &'a RectSet
-    ensures { (result.now ≡ one.now) ⊎ (result.now ≡ other.now) }
-{
-    if other.rects().len() < one.rects().len() {
-        return other;
-    }
-    one
-}
-
-// Squares of a window, among them all that lie within so many squares of both sets: these, or all so
-// near the first set, whatever takes fewer rectangles. Where the number is 0, the second lies in the
-// first.
+// Squares of a window, among them all that lie within so many squares of both sets: these, or all
+// so near the first set, whatever takes fewer rectangles. Where the number is 0, the second lies in
+// the first.
 fn near_both(
     alloc: Global,
     places: &RectSet,

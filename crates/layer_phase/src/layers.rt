@@ -15,7 +15,7 @@ ghost use Rattle.layer_phase.specs.Groups.{AreFlatsAround, AreGroups, ArePlain, 
 ghost use Rattle.layer_phase.specs.Groups.{IsFlatAround, IsGroup, IsMember};
 ghost use Rattle.layer_phase.specs.Keeps.{IsZoneAt};
 ghost use Rattle.layer_phase.specs.Looks.{AreReadLooks};
-ghost use Rattle.layer_phase.specs.Names.{AreLocals, IsFlatIn};
+ghost use Rattle.layer_phase.specs.Names.{AreLocals};
 ghost use Rattle.layer_phase.specs.Work.{IsWork};
 
 use crate::flats::name_flats;
@@ -23,7 +23,7 @@ use crate::groups::Group;
 use crate::grown::around;
 use crate::looks::looks;
 use crate::own::own_copy;
-use crate::parts::{calm_squares, local_squares};
+use crate::parts::{kept_among, without};
 use crate::squares::Squares;
 use crate::work::{CellWork, View};
 use cell_graph::Design;
@@ -62,21 +62,20 @@ fn seen(alloc: Global, flat: Squares<'_>, looks: &RectSet, far: u32) -> Result<R
     flat.set().combined(alloc, looks, Op::And)
 }
 
-// Squares that aren't near those that the cell leaves, nor kept by placed cells.
+// Squares that aren't near those that the cell leaves.
 fn undisturbed(
     alloc: Global,
     squares: RectSet,
     zone: &RectSet,
-    calm: &RectSet,
     far: u32,
 ) -> Result<RectSet, AllocError>
     requires far { far ≤ 10000 }
     requires zone { IsSetWithin (2 ^ 39) zone.now }
-    ensures { IfOk result (λ r. (q : Square) → covers r q
-        ≡ ((covers squares q && not (covers (around far zone.now) q)) && not (covers calm.now q))) }
+    ensures { IfOk result (λ r. (q : Square)
+        → covers r q ≡ (covers squares q && not (covers (around far zone.now) q))) }
 {
     let stirred = around(alloc, zone, far)?;
-    local_squares(alloc, squares, stirred.set(), calm)
+    without(alloc, squares, stirred.set())
 }
 
 // Of a derived name it holds flat squares near which it leaves nothing and that no placed cell
@@ -95,19 +94,20 @@ fn derived_layer(
         → IsSetWithin (2 ^ 39) v }
     requires looks { AreReadLooks far work.now.design.now work.now.zones.now
         work.now.rules.now.names.items name work.now.cell looks.now }
-    requires name { name < length (formulas work.now.rules.now.names.items) }
-    ensures { IfOk result (λ r. (x : Formula) (wide : List Rectangle) → IsDerived x → reach x ≡ far
+    requires member { IsMember work.now.rules.now.names.items far name }
+    requires flat { (x : Formula) → IsDerived x → reach x ≡ far
         → slice_get (formulas work.now.rules.now.names.items) name ≡ Some x
-        → ((q : Square) → covers wide q ≡ covers (around far looks.now) q)
-        → IsFlatIn work.now.design.now work.now.cell wide x flat.entry
+        → IsFlatAround far work.now.design.now work.now.cell looks.now x flat }
+    ensures { IfOk result (λ r. (x : Formula) → IsDerived x → reach x ≡ far
+        → slice_get (formulas work.now.rules.now.names.items) name ≡ Some x
         → IsLocalLayer (plain work.now.design.now) x work.now.cell r) }
 {
     work.design.sound();
-    let _rects = looks.rects();
-    let calm = calm_squares(alloc, work, name, looks, far)?;
     let zone = work.zones.left(work.cell, ZoneKey::Layer(name));
     let squares = seen(alloc, flat, looks, far)?;
-    let local = undisturbed(alloc, squares, zone, &calm, far)?;
+    let still = undisturbed(alloc, squares, zone, far)?;
+    let kept = kept_among(alloc, work, name, &still, looks, far)?;
+    let local = without(alloc, still, &kept)?;
     let _canonical = local.rects();
     Ok(local)
 }
@@ -174,11 +174,13 @@ fn fill_name(
     requires looks { AreReadLooks group.now.reach work.now.design.now work.now.zones.now
         work.now.rules.now.names.items name work.now.cell looks.now }
     requires name { name < length (formulas work.now.rules.now.names.items) }
+    requires flat { (x : Formula) → IsDerived x → reach x ≡ group.now.reach
+        → slice_get (formulas work.now.rules.now.names.items) name ≡ Some x
+        → IsFlatAround group.now.reach work.now.design.now work.now.cell looks.now x flat }
     requires layers { name < length layers.old.items }
     ensures count { OnOk result (length layers.new.items ≡ length layers.old.items) }
     ensures here { OnOk result ((x : Formula) → IsDerived x → reach x ≡ group.now.reach
         → slice_get (formulas work.now.rules.now.names.items) name ≡ Some x
-        → IsFlatAround group.now.reach work.now.design.now work.now.cell looks.now x flat.entry
         → IsLocalLayer (plain work.now.design.now) x work.now.cell
         (get_or layers.new.items name [])) }
     ensures none { OnOk result ((IsMember work.now.rules.now.names.items group.now.reach name → ⊥)

@@ -1,21 +1,17 @@
 //! The squares of a cell that have to be looked at: its own shapes, and what is exposed in the
 //! cells that it places. Everywhere else a placed cell keeps what lies there.
-ghost use Rattle.std.specs.Prelude.{◌≡◌, ◌<◌, ◌≤◌, ◌^◌, [], ℕ, List, Option, length, Some};
+ghost use Rattle.std.specs.Prelude.{◌≡◌, ◌<◌, [], ℕ, length, Some};
 ghost use Rattle.std.specs.Prelude.{slice_get, IfOk, OnOk};
 ghost use Rattle.std.specs.List.{All};
 ghost use Rattle.geo_base.specs.Near.{IsNearRect};
 ghost use Rattle.geo_base.specs.Rects.{IsRect, has};
 ghost use Rattle.geo_base.specs.declared.layer.LayerKey.{LayerKey};
-ghost use Rattle.geo_base.specs.declared.shapes.Square.{Square};
-ghost use Rattle.rect_sets.specs.Rects.{covers};
 ghost use Rattle.cell_context.specs.Arrays.{IsNearArray};
 ghost use Rattle.cell_context.specs.Over.{IsPiece};
 ghost use Rattle.cell_context.specs.Placed.{Brings, Grows};
 ghost use Rattle.cell_graph.specs.Linked.{IsFrame, cell_at, hull_of, own_of, places_at};
 ghost use Rattle.cell_graph.specs.declared.cells.Place.{Place};
-ghost use Rattle.deep_tables.specs.declared.zones.CellZones.{CellZones};
 ghost use Rattle.rule_text.specs.declared.rules.LayerForm.TheVariants.{Input};
-ghost use Rattle.rule_text.specs.declared.rules.LayerRule.{LayerRule as Rule};
 ghost use Rattle.layer_phase.specs.Looks.{AreExposedLists, AreHeld, AreLooks};
 ghost use Rattle.layer_phase.specs.Looks.{BringsExposed, BringsOwn, HasAll, HaveAll};
 ghost use Rattle.layer_phase.specs.Looks.{HaveMarked, HoldsOwn};
@@ -23,11 +19,11 @@ ghost use Rattle.layer_phase.specs.Work.{IsReference, IsView};
 
 use crate::exposed::{ExposedLists, expose, set_at};
 use crate::grown::sized;
+use crate::squares::whole;
 use crate::stirred::{outside, stirred_of};
 use crate::work::View;
 use cell_context::{grown, push_array};
 use cell_graph::{Design, Place};
-use deep_tables::Zones;
 use geo_base::Rect;
 use rect_sets::RectSet;
 use rule_text::{LayerForm, LayerRule};
@@ -221,18 +217,7 @@ fn looks_in(alloc: Global, view: &View, cell: u32, hull: &Rect) -> Result<RectSe
     Ok(set)
 }
 
-// The whole hull: where no cell is placed, all of it may be looked at, by one look.
-fn whole(alloc: Global, hull: &Rect) -> Result<RectSet, AllocError>
-    requires { IsRect hull.now }
-    ensures { IfOk result (λ r. (q : Square) → covers r q ≡ has hull.now q) }
-{
-    let mut rects = Vec::new(alloc);
-    rects.push(*hull)?;
-    let set = RectSet::canon(alloc, rects)?;
-    Ok(set)
-}
-
-// The squares to be looked at of a cell that places no other.
+// The squares to be looked at of a cell that places no other: its whole hull, by one look.
 fn leaf_looks(alloc: Global, view: &View, cell: u32, hull: &Rect) -> Result<RectSet, AllocError>
     requires hull { hull_of (cell_at view.now.design.now cell) ≡ Some hull.now }
     requires view { IsView view.now }

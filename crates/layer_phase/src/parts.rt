@@ -1,24 +1,23 @@
 //! The parts of which a cell's layers are made.
-ghost use Rattle.std.specs.Prelude.{◌≡◌, ◌↔◌, ◌<◌, ◌≤◌, ◌^◌, ◌&&◌, not, ℕ, IfOk, OnOk, true};
+ghost use Rattle.std.specs.Prelude.{◌≡◌, ◌↔◌, ◌<◌, ◌≤◌, ◌^◌, ◌&&◌, not, IfOk, true};
 ghost use Rattle.std.specs.Prelude.{List, length};
 ghost use Rattle.std.specs.List.{All};
 ghost use Rattle.geo_base.specs.Rects.{IsRect, has, grown};
 ghost use Rattle.geo_base.specs.declared.shapes.Rect.{Rect as Rectangle};
 ghost use Rattle.geo_base.specs.declared.shapes.Square.{Square};
 ghost use Rattle.rect_sets.specs.Rects.{covers};
-ghost use Rattle.flat_layout.specs.Layers.{Formula, IsLocal};
-ghost use Rattle.flat_layout.specs.Layout.{IsReached};
-ghost use Rattle.cell_graph.specs.Linked.{IsFrame, IsRectWithin, plain};
+ghost use Rattle.cell_graph.specs.Linked.{IsFrame, IsRectWithin};
 ghost use Rattle.layer_phase.specs.Around.{around};
 ghost use Rattle.layer_phase.specs.Keeps.{HasEntry, HaveEntries, IsKeptBy, IsZoneAt};
 ghost use Rattle.cell_context.specs.Over.{IsPiece};
-ghost use Rattle.deep_tables.specs.declared.zones.CellZones.{CellZones};
 ghost use Rattle.layer_phase.specs.Looks.{AreNear};
+ghost use Rattle.cell_context.specs.Placed.{Grows};
+ghost use Rattle.sized_layers.specs.Sizes.{IsSetWithin};
 
 use crate::grown::sized;
+use crate::squares::{fewer, whole};
 use crate::work::CellWork;
 use cell_context::{Visit, grown, push_images, push_pieces, visits};
-use cell_graph::Design;
 use deep_tables::{ZoneKey, Zones};
 use geo_base::{Op, Rect};
 use rect_sets::{RectSet, combine_rects};
@@ -47,6 +46,21 @@ fn disturbed_near(
     Ok(there)
 }
 
+// A window without the squares of rectangles: all of it, where there is none, and nothing, where it
+// lies in a single one, as most windows do.
+fn cut(alloc: Global, window: &Rect, there: &[Rect]) -> Result<RectSet, AllocError>
+    requires window { IsRect window.now }
+    requires rects { All IsRect there.now }
+    ensures { IfOk result (λ r. (q : Square)
+        → covers r q ≡ (has window.now q && not (covers there.now q))) }
+{
+    match there {
+        [] => whole(alloc, window),
+        [one] if window.is_inside(one) => Ok(RectSet::empty(alloc)),
+        _ => combine_rects(alloc, &[*window], there, Op::Not),
+    }
+}
+
 // A window without the squares within so many squares of others in the grown window.
 fn cut_near(
     alloc: Global,
@@ -63,12 +77,12 @@ fn cut_near(
         → covers r q ≡ (has window.now q && not (covers (around reach there.items) q))) }
 {
     if reach == 0 {
-        return combine_rects(alloc, &[*window], &there, Op::Not);
+        return cut(alloc, window, &there);
     }
     let set = RectSet::canon(alloc, there)?;
     let _rects = set.rects();
     let stirred = sized(alloc, &set, reach)?;
-    combine_rects(alloc, &[*window], stirred.rects(), Op::Not)
+    cut(alloc, window, stirred.rects())
 }
 
 // The part of a visit's window near which the visited cell leaves nothing: only what it leaves in
@@ -120,8 +134,8 @@ pub fn calm_pieces(
     Ok(out)
 }
 
-/// The same of all squares that are looked at.
-pub fn calm_squares(
+// The same of all squares that are looked at.
+fn calm_squares(
     alloc: Global,
     work: &CellWork,
     name: u32,
@@ -144,8 +158,31 @@ pub fn calm_squares(
     Ok(set)
 }
 
-// The squares of the one set that the other doesn't have: itself, where that one is empty.
-fn without(alloc: Global, set: RectSet, other: &RectSet) -> Result<RectSet, AllocError>
+/// What placed cells keep of some squares that are looked at, and may be of others: sought is in
+/// these, or in all that are looked at, whatever takes fewer rectangles.
+pub fn kept_among(
+    alloc: Global,
+    work: &CellWork,
+    name: u32,
+    squares: &RectSet,
+    looks: &RectSet,
+    reach: u32,
+) -> Result<RectSet, AllocError>
+    requires cell { work.now.cell < length work.now.design.now.cells }
+    requires within { IsSetWithin (2 ^ 39) looks.now }
+    requires inside { Grows squares.now looks.now }
+    requires reach { reach ≤ 10000 }
+    requires entries { HaveEntries work.now.design.now work.now.zones.now work.now.cell name }
+    ensures { IfOk result (λ r. (q : Square) → covers squares.now q ≡ true → (covers r q ≡ true)
+        ↔ IsKeptBy reach work.now.design.now work.now.zones.now work.now.cell name q) }
+{
+    let chosen = fewer(squares, looks);
+    let _rects = chosen.rects();
+    calm_squares(alloc, work, name, chosen, reach)
+}
+
+/// The squares of the one set that the other doesn't have: itself, where that one is empty.
+pub fn without(alloc: Global, set: RectSet, other: &RectSet) -> Result<RectSet, AllocError>
     ensures { IfOk result (λ r. (q : Square)
         → covers r q ≡ (covers set q && not (covers other.now q))) }
 {
@@ -153,20 +190,4 @@ fn without(alloc: Global, set: RectSet, other: &RectSet) -> Result<RectSet, Allo
         return Ok(set);
     }
     set.combined(alloc, other, Op::Not)
-}
-
-/// A cell's layer: flat squares, without those that it leaves and those that placed cells keep.
-pub fn local_squares(
-    alloc: Global,
-    flat: RectSet,
-    zone: &RectSet,
-    calm: &RectSet,
-) -> Result<RectSet, AllocError>
-    ensures { IfOk result (λ r. (q : Square)
-        → covers r q ≡ ((covers flat q && not (covers zone.now q))
-        && not (covers calm.now q))) }
-{
-    let undisturbed = without(alloc, flat, zone)?;
-    let local = without(alloc, undisturbed, calm)?;
-    Ok(local)
 }

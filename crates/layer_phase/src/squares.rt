@@ -1,8 +1,10 @@
 //! Squares that were found, or that are lent where they stand.
-ghost use Rattle.std.specs.Prelude.{◌≡◌, IfOk};
+ghost use Rattle.std.specs.Prelude.{◌≡◌, ◌⊎◌, IfOk};
+ghost use Rattle.geo_base.specs.Rects.{IsRect, has};
 ghost use Rattle.geo_base.specs.declared.shapes.Square.{Square};
 ghost use Rattle.rect_sets.specs.Rects.{covers};
 
+use geo_base::Rect;
 use rect_sets::RectSet;
 use std::alloc::{AllocError, Global};
 use std::marker::Model;
@@ -69,6 +71,27 @@ impl<'a> Squares<'a> {
             Holder::Own(set) => Ok(set),
         }
     }
+}
+
+/// That of two sets which has fewer rectangles, the first where both have as many.
+pub fn fewer<'a>(one: &'a RectSet, other: &'a RectSet) -> &'a RectSet
+    ensures { (result.now ≡ one.now) ⊎ (result.now ≡ other.now) }
+{
+    if other.rects().len() < one.rects().len() {
+        return other;
+    }
+    one
+}
+
+/// The squares of a rectangle.
+pub fn whole(alloc: Global, rect: &Rect) -> Result<RectSet, AllocError>
+    requires { IsRect rect.now }
+    ensures { IfOk result (λ r. (q : Square) → covers r q ≡ has rect.now q) }
+{
+    let mut rects = Vec::new(alloc);
+    rects.push(*rect)?;
+    let set = RectSet::canon(alloc, rects)?;
+    Ok(set)
 }
 
 fn copied(alloc: Global, set: &RectSet) -> Result<RectSet, AllocError>

@@ -1,6 +1,6 @@
 //! What a cell leaves to those above for all derived names of a group: of this it holds nothing,
 //! so that it needn't be looked at.
-ghost use Rattle.std.specs.Prelude.{◌≡◌, ◌<◌, ◌^◌, ◌&&◌, not, ℕ, List, true, length, IfOk};
+ghost use Rattle.std.specs.Prelude.{◌≡◌, ◌<◌, ◌^◌, ◌&&◌, not, List, true, length, IfOk};
 ghost use Rattle.std.specs.List.{All};
 ghost use Rattle.geo_base.specs.Rects.{IsRect};
 ghost use Rattle.geo_base.specs.declared.shapes.Rect.{Rect as Rectangle};

@@ -13,11 +13,13 @@ use view_page::{Book, Places, push_page};
 use view_pairs::proposals;
 
 // A layout and a schematic whose circuits are pairs by place, and of the last pair the marks of its
-// nets, devices and calls, as the browser has them, and the page.
+// nets, devices and calls, as the browser has them, how many devices, nets and pins all circuits of
+// each side have, and the page below that.
 struct Case {
     layout: &'static str,
     schematic: &'static str,
     marks: &'static str,
+    counts: (&'static str, &'static str),
     page: &'static str,
 }
 
@@ -31,6 +33,7 @@ static CASES: [Case; 6] = [
         schematic: ".subckt inv a y v g\nm1 y a v v p l=0.1u w=1u\nm2 y a g g n l=0.1u w=0.6u\n\
             .ends\n",
         marks: "N1N1N1N1D1DW",
+        counts: ("devices 2, nets 4, pins 4", "devices 2, nets 4, pins 4"),
         page: "cell INV, circuit INV of the schematic\n\
             \x20 transistor $2 N L=0.1 W=0.6 of the schematic: in the layout transistor $2 N \
             L=0.1 W=0.5 at (1, 2.5)\n",
@@ -41,6 +44,7 @@ static CASES: [Case; 6] = [
             .ends\n",
         schematic: ".subckt inv a y v g\nm1 y a v v p l=0.1u w=1u\n.ends\n",
         marks: "N0N0N1N0D1D0",
+        counts: ("devices 2, nets 4, pins 4", "devices 1, nets 4, pins 4"),
         page: "cell INV, circuit INV of the schematic\n\
             \x20 net A of the schematic: among other neighbours in the layout, net A at (0, 0)\n\
             \x20 net Y of the schematic: among other neighbours in the layout, net Y at (1, 0)\n\
@@ -54,6 +58,7 @@ static CASES: [Case; 6] = [
         schematic: ".subckt inv a y v g\nm1 y a v v p l=1u w=2u\nm2 y a g g n l=1u w=1u\n.ends\n\
             .subckt buf i o v g\nx1 i m v g inv\nx2 o m v g inv\n.ends\n",
         marks: "N1N0N1N1N0X1X0",
+        counts: ("devices 2, nets 9, pins 8", "devices 2, nets 9, pins 8"),
         page: "cell BUF, circuit BUF of the schematic\n\
             \x20 net O of the schematic: among other neighbours in the layout, net O at (1, 0)\n\
             \x20 net M of the schematic: among other neighbours in the layout, net M at (4, 0)\n\
@@ -65,6 +70,7 @@ static CASES: [Case; 6] = [
         layout: ".subckt t a\\,b c c\\$3\nm1 c a\\,b c\\$3 a\\,b n l=1u w=1u\n.ends\n",
         schematic: ".subckt t a b c\nm1 c a c b n l=1u w=1u\n.ends\n",
         marks: "N0N0N0N0N0D0",
+        counts: ("devices 1, nets 3, pins 3", "devices 1, nets 3, pins 3"),
         page: "cell T, circuit T of the schematic\n\
             \x20 net 'A,B' at (0, 0): none in the schematic\n\
             \x20 net 'A,B' at (0, 0): joins nets A B of the schematic\n\
@@ -81,6 +87,7 @@ static CASES: [Case; 6] = [
         layout: ".subckt t a b w\nr1 a b w rp l=1u w=2u\nd2 a b dn a=0.5p p=3u\n.ends\n",
         schematic: ".subckt t a b w\nr1 b a w rp l=1u w=2.5u\nd2 a b dn a=0.25p p=3u\n.ends\n",
         marks: "N1N1N1DWDW",
+        counts: ("devices 2, nets 3, pins 3", "devices 2, nets 3, pins 3"),
         page: "cell T, circuit T of the schematic\n\
             \x20 resistor $1 RP L=1 W=2.5 of the schematic: in the layout resistor $1 RP \
             L=1 W=2 at (0, 2.5)\n\
@@ -92,6 +99,7 @@ static CASES: [Case; 6] = [
         layout: ".subckt t a b\nd1 a b dn a=0.5p p=3u\n.ends\n",
         schematic: ".subckt t a b\nd1 b a dn a=0.5p p=3u\n.ends\n",
         marks: "N0N0D0",
+        counts: ("devices 1, nets 2, pins 2", "devices 1, nets 2, pins 2"),
         page: "cell T, circuit T of the schematic\n\
             \x20 net A of the schematic: among other neighbours in the layout, net A at (0, 0)\n\
             \x20 net B of the schematic: among other neighbours in the layout, net B at (1, 0)\n\
@@ -207,7 +215,7 @@ fn names_of(alloc: Global, circuits: &[Circuit]) -> Result<Vec<Name>, AllocError
     Ok(out)
 }
 
-// What is shown of a case: the marks of its last pair, and the page behind its first line.
+// What is shown of a case: the marks of its last pair, and the page.
 fn comes_out(alloc: Global, case: &Case) -> Result<bool, Fail> {
     let left = read(alloc, case.layout)?;
     let right = read(alloc, case.schematic)?;
@@ -228,8 +236,18 @@ fn comes_out(alloc: Global, case: &Case) -> Result<bool, Fail> {
     };
     push_page(alloc, &mut page, book, &rows)?;
     let mut want = Vec::new(alloc);
-    want.extend_from_slice(HEAD.as_bytes())?;
-    want.extend_from_slice(case.page.as_bytes())?;
+    let (lefts, rights) = case.counts;
+    for part in [
+        HEAD,
+        "Compared: ",
+        lefts,
+        " of the layout; ",
+        rights,
+        " of the schematic.\n",
+        case.page,
+    ] {
+        want.extend_from_slice(part.as_bytes())?;
+    }
     let Some(last) = rows.last() else {
         return Ok(false);
     };

@@ -6,3 +6,7 @@ mod Marking
 mod Walking
 mod Plans
 mod Rows
+mod SameRows
+mod SameReading
+mod SameMeaning
+mod PlainFile

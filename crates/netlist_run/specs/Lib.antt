@@ -11,3 +11,5 @@ pub mod Circuits
 pub mod CircuitsSeen
 pub mod Marks
 pub mod Work
+pub mod Kept
+pub mod Plain

@@ -3,6 +3,7 @@
 #![tactic(auto)]
 
 mod circuits;
+mod laws;
 mod lines;
 mod params;
 mod place;
@@ -15,5 +16,6 @@ mod tally;
 mod told;
 mod words;
 
+pub use laws::{file_laws, netlist_laws};
 pub use run::run_netlist;
 pub use status::Status;

@@ -9,7 +9,7 @@ use Rattle.spice_cards.specs.Tokens.{Token, Word, Equals}
 use Rattle.spice_cards.specs.Parts.{Param, behind_words, params_of, words_of}
 use Rattle.spice_cards.specs.Cards.{Card, cards_of, early_more}
 use Rattle.netlist_turn.specs.CardLaw.{kept_words, param_tokens, params_text, turned_params, words_text}
-use Rattle.netlist_turn.specs.KeptLaw.{IsQuiet, IsWhole, is_passed_row, is_silent, saying, tokens_in}
+use Rattle.netlist_turn.specs.KeptLaw.{IsQuiet, IsWhole, KeptCardsLaw, KeptStartLaw, is_passed_row, is_silent, saying, tokens_in}
 use Rattle.netlist_turn.specs.Made.{Made, card_made, has_shadow, has_stuck, is_left, telling}
 use Rattle.netlist_turn.specs.Turning.{after, and_then, by_device, by_fate, card_taken, device_at, drops_if, early_or, end_fate, fate_of, is_opening, is_out, kept_card, moved, nothing, open_fate, opened, plain_taken, turned, turning, word_taken}
 use Rattle.netlist_turn.specs.Devices.{called_name}
@@ -28,7 +28,7 @@ use Rattle.netlist_turn.specs.declared.turn.Fate.TheVariants.{Keeps, Drops, Refu
 use Rattle.netlist_turn.specs.declared.made.Kind.TheVariants as kind
 use Rattle.netlist_turn.proofs.CardText.{card_text_is}
 use Rattle.netlist_turn.proofs.PlainTokens.{AreOk, AreOkCards, cards_ok}
-use Rattle.netlist_turn.proofs.KeptLines.{AreCardLines, IsCardLine, card_line, lines_cards, parted}
+use Rattle.netlist_turn.proofs.KeptLines.{AreCardLines, IsCardLine, card_line, lines_cards, lines_start, parted}
 use Rattle.netlist_turn.proofs.Quiet.{before_telling, card_at, card_quiet}
 
 -- no card stands in a circuit that is left out
@@ -298,8 +298,17 @@ turned_by : (o : Option ℕ) (r : Result Made TurnFault) (m : Made) → early_or
 turned_by None r m h = h
 turned_by (Some line) r m h = no_ok (EarlyMore line) m h
 
-pub cards_kept : (s : Settings) (text : List ℕ) (m : Made) → IsWhole s → has_escape text ≡ false → turned s text ≡ Ok m → IsQuiet m → tokens_in (cards_of m.text) ≡ saying (cards_of text)
+steps_of : (s : Settings) (text : List ℕ) (m : Made) → IsWhole s → has_escape text ≡ false → turned s text ≡ Ok m → IsQuiet m → AreSteps nothing (cards_of text) m
+steps_of s text m whole plain h q =
+    all_steps s nothing (cards_of text) m whole tt (cards_ok text plain) (turned_by (early_more text) (turning s nothing (cards_of text)) m h) q
+
+pub cards_kept : KeptCardsLaw
 cards_kept s text m whole plain h q =
-    let steps = all_steps s nothing (cards_of text) m whole tt (cards_ok text plain) (turned_by (early_more text) (turning s nothing (cards_of text)) m h) q in
+    let steps = steps_of s text m whole plain h q in
     let cards = lines_cards 1 steps.text (saying (cards_of text)) steps.lines in
     ap (λ (t : List ℕ). tokens_in (cards_of t)) steps.written ∙ cards.1
+
+pub cards_start : KeptStartLaw
+cards_start s text m whole plain h q =
+    let steps = steps_of s text m whole plain h q in
+    ap (λ (t : List ℕ). early_more t) steps.written ∙ lines_start steps.text (saying (cards_of text)) steps.lines

@@ -8,7 +8,7 @@ use Rattle.rule_lines.specs.Lines.{chopped, lines_of}
 use Rattle.rule_lines.proofs.LineLemmas.{Lacks, ended}
 use Rattle.spice_cards.specs.Tokens.{Token, Word, Equals, goes_on, is_blank, run, tokens_of, word_len}
 use Rattle.spice_cards.specs.Parts.{Param, begins_equals, behind_words, onto, params_of, words_of}
-use Rattle.spice_cards.specs.Cards.{Cut, cut, is_more, is_passed}
+use Rattle.spice_cards.specs.Cards.{Cut, cut, early_more, early_more_in, is_more, is_passed}
 use Rattle.netlist_turn.specs.CardLaw.{IsPair, IsWord, param_tokens, params_text, words_text}
 use Rattle.netlist_turn.specs.KeptLaw.{tokens_in}
 use Rattle.netlist_turn.proofs.CardText.{card_tokens_is, first_byte, on_by}
@@ -196,3 +196,13 @@ lines_cards n text (ts ∷ tss) (line, is, rest, more, e) =
           ∙ ap (λ (xs : List Token). xs ∷ tokens_in k.cards) (append-nil (tokens_of line) ∙ is.tokens)
           ∙ ap (λ (xs : List (List Token)). ts ∷ xs) behind.1,
     )
+
+start_by : (p q : Bool) (o : Option ℕ) (n : ℕ) → p ≡ false → q ≡ false → (if p then o else if q then (let x : Option ℕ = Some n in x) else None) ≡ None
+start_by p q o n e f = rw (e, f) refl
+
+-- the first of them begins a card
+pub lines_start : (text : List ℕ) (tss : List (List Token)) → AreCardLines text tss → early_more text ≡ None
+lines_start text [] h = ap (λ (t : List ℕ). early_more t) h
+lines_start text (ts ∷ tss) (line, is, rest, more, e) =
+    let split : lines_of text ≡ line ∷ lines_of rest = ap (λ (t : List ℕ). lines_of t) e ∙ ended line rest is.lacks ∙ ap (λ (l : List ℕ). l ∷ lines_of rest) is.whole in
+    ap (λ (ls : List (List ℕ)). early_more_in 1 ls) split ∙ start_by (is_passed line) (is_more line) (early_more_in 2 (lines_of rest)) 1 is.shown is.begins

@@ -1,8 +1,8 @@
 -- Where nothing is told but cards that say nothing of the netlist, the others stand as they were.
-use Rattle.std.specs.Prelude.{◌≡◌, ℕ, Bool, true, false, List, [], ◌∷◌, map, Ok}
+use Rattle.std.specs.Prelude.{◌≡◌, ℕ, Bool, true, false, List, [], ◌∷◌, map, None, Ok}
 use Rattle.std.specs.Prelude.{if◌then◌else◌}
 use Rattle.std.specs.List.{list_all}
-use Rattle.spice_cards.specs.Cards.{Card, cards_of}
+use Rattle.spice_cards.specs.Cards.{Card, cards_of, early_more}
 use Rattle.spice_cards.specs.Tokens.{Token, Word, Equals}
 use Rattle.netlist_turn.specs.Made.{Made, Told}
 use Rattle.netlist_turn.specs.Turning.{turned}
@@ -54,3 +54,8 @@ tokens_in cards = map (λ (c : Card). c.tokens) cards
 abbrev pub KeptCardsLaw : Type 0
 KeptCardsLaw = (s : Settings) (text : List ℕ) (m : Made) → IsWhole s → has_escape text ≡ false
     → turned s text ≡ Ok m → IsQuiet m → tokens_in (cards_of m.text) ≡ saying (cards_of text)
+
+-- and no `+` stands before the first of them
+abbrev pub KeptStartLaw : Type 0
+KeptStartLaw = (s : Settings) (text : List ℕ) (m : Made) → IsWhole s → has_escape text ≡ false
+    → turned s text ≡ Ok m → IsQuiet m → early_more m.text ≡ None

@@ -2,7 +2,7 @@
 
 ghost use Rattle.netlist_turn.specs.CardLaw.{CardTextLaw, CardTokensLaw};
 ghost use Rattle.netlist_turn.specs.DeviceLaw.{DeviceReadLaw, DeviceTextLaw};
-ghost use Rattle.netlist_turn.specs.KeptLaw.{KeptCardsLaw};
+ghost use Rattle.netlist_turn.specs.KeptLaw.{KeptCardsLaw, KeptStartLaw};
 ghost use Rattle.netlist_turn.specs.ScaleLaw.{ProductLaw, WrittenSizeLaw};
 
 /// A size by the scale is exactly the product, and what is written of it is read as that size.
@@ -27,8 +27,9 @@ pub fn device_laws()
 {}
 
 /// Of a text without a backslash, of which nothing is told but cards that say nothing of the
-/// netlist, all other cards stand in what is made, in their order, each with its tokens. No circuit
-/// and no device may be left out, and no name listed.
+/// netlist, all other cards stand in what is made, in their order, each with its tokens, and no `+`
+/// before them. No circuit and no device may be left out, and no name listed.
 pub fn kept_laws()
-    ensures { KeptCardsLaw }
+    ensures cards { KeptCardsLaw }
+    ensures start { KeptStartLaw }
 {}

@@ -45,10 +45,13 @@ measure_of w =
     else if bytes_eq w (codes "without_area") then Some true
     else None
 
+abbrev pub exactly : ℕ → ℕ × Option ℕ
+exactly n = (n, Some (n + 1))
+
 -- the least area, and the least that is too great
 unfoldable pub range_of : List Token → Option (ℕ × Option ℕ)
 range_of ts =
-    if fits area_row ts then Some (unwrap_or (area_at 6 ts) 0, Some (unwrap_or (area_at 6 ts) 0 + 1))
+    if fits area_row ts then Some (exactly (unwrap_or (area_at 6 ts) 0))
     else if fits between_row ts && (is_some (area_at 6 ts) || is_some (area_at 8 ts)) then Some
     (unwrap_or (area_at 6 ts) 0, area_at 8 ts)
     else None

@@ -3,9 +3,10 @@ use Rattle.std.specs.Prelude.{◌≡◌, ℕ, ◌+◌, ◌<◌, ◌≤◌, unsig
 use Rattle.std.specs.Prelude.{unwrap_or}
 use Rattle.rule_lines.specs.Tokens.{Token}
 use Rattle.geo_base.specs.Layers.{IsStreamKey}
-use Rattle.rule_text.specs.Rows.{Slot, Fresh, Name, Quoted, Exact, Guesses, Size, Form, Input, Sized}
-use Rattle.rule_text.specs.Rows.{Statement, Define, Choose, Draw, Global, Extract, Further, More, Resistor}
-use Rattle.rule_text.specs.Rows.{Diode, Same, FlattenLayout, FlattenSchematic, MaxGuesses}
+use Rattle.rule_text.specs.Rows.{Slot, Fresh, Name, Quoted, Exact, Guesses, Size, Form, Input}
+use Rattle.rule_text.specs.Rows.{Sized, Statement, Define, Choose, Draw, Global, Extract, Further}
+use Rattle.rule_text.specs.Rows.{More, Resistor, Diode, Same, FlattenLayout, FlattenSchematic}
+use Rattle.rule_text.specs.Rows.{MaxGuesses}
 use Rattle.rule_text.specs.Rows.{guesses_of, size_of, is_string, word_at}
 
 abbrev pub IsGuessLimit : ℕ → Type 0

@@ -1,7 +1,7 @@
 -- Sound rule sets: operands stand before their names, numbers are numbers of layers, nothing is
 -- there twice, and devices are connected.
-use Rattle.std.specs.Prelude.{◌≡◌, ◌⊎◌, ℕ, ◌<◌, ◌≤◌, unsigned_abs, true, false, ◌&&◌, List, length, map}
-use Rattle.std.specs.Prelude.{slice_get, Some}
+use Rattle.std.specs.Prelude.{◌≡◌, ◌⊎◌, ℕ, ◌<◌, ◌≤◌, unsigned_abs, true, false, ◌&&◌, List, length}
+use Rattle.std.specs.Prelude.{map, slice_get, Some}
 use Rattle.std.specs.List.{All}
 use Rattle.net_names.specs.Folding.{folded_bytes}
 use Rattle.geo_base.specs.Layers.{IsStreamKey}

@@ -1,5 +1,5 @@
 -- The cells of a staged layout.
-use Rattle.std.proofs.Common.{◌≡◌, ◌↔◌, inl, inr, ℕ, zero, suc, Bool, true, false, List, [], ◌∷◌, ◌++◌, map, length, Option, Some, None, slice_get, refl, sym, ◌∙◌, ap, subst}
+use Rattle.std.proofs.Common.{◌≡◌, ◌↔◌, inl, inr, ℕ, Bool, true, false, List, [], ◌∷◌, ◌++◌, map, length, Option, Some, slice_get, refl, sym, ◌∙◌, ap, subst}
 use Rattle.std.proofs.lemmas.List.{map-append}
 use Rattle.base_laws.proofs.Items.{map_to, one_entry, one_list}
 use Rattle.base_laws.proofs.Lists.{map_count}
@@ -22,7 +22,6 @@ use Rattle.gds_layout.specs.Once.{contents}
 use Rattle.select_laws.specs.Staged.{Stage}
 use Rattle.staged_designs.specs.Depths.{stage_keys}
 use Rattle.staged_layouts.specs.Staged.{IsStagedCell}
-use Rattle.geo_base.specs.Layers.{is_same_key}
 
 -- ---- the rectangles of a further layer
 

@@ -1,6 +1,5 @@
 -- What holds of staged layouts.
-use Rattle.std.proofs.Common.{◌≡◌, inl, inr, ◌↔◌, ℕ, ◌<◌, List, map, length, Option, Some, None, get_or, slice_get, refl, sym, ◌∙◌, ap, subst, arith}
-use Rattle.std.proofs.lemmas.Bool.{cases_lt}
+use Rattle.std.proofs.Common.{◌≡◌, ◌↔◌, ℕ, List, map, length, Option, Some, None, get_or, slice_get, refl, sym, ◌∙◌, ap, subst}
 use Rattle.std.specs.List.{All}
 use Rattle.base_laws.proofs.Items.{map_from, map_to, one_entry, one_list}
 use Rattle.base_laws.proofs.Lists.{map_count}
@@ -22,12 +21,11 @@ use Rattle.gds_layout.proofs.SamePlain.{same_plain}
 use Rattle.gds_shapes.specs.Accepted.{IsHeading}
 use Rattle.gds_shapes.specs.Data.{IsData, IsNamed}
 use Rattle.gds_shapes.specs.References.{FitsReference}
-use Rattle.layout_shapes.specs.Wide.{IsFarOut}
 use Rattle.layout_shapes.specs.Writable.{FitsStream, IsWritableCell}
 use Rattle.layout_shapes.specs.Written.{heading_of, name_of, ref_of}
 use Rattle.select_laws.specs.Staged.{AreInTurn, IsStaged, Stage, StagedLaw, UnreadLaw}
 use Rattle.staged_designs.proofs.Mixed.{AreAlike}
-use Rattle.staged_layouts.specs.Staged.{IsFirstFar, IsStagedLayout, OneFarLaw, ShowsSelectionsLaw, StagedAlikeLaw, StagedFitsLaw, stages_reach}
+use Rattle.staged_layouts.specs.Staged.{IsStagedLayout, ShowsSelectionsLaw, StagedAlikeLaw, StagedFitsLaw}
 use Rattle.staged_layouts.proofs.Agreeing.{AreOnlyReached, agree}
 use Rattle.staged_layouts.proofs.Cells.{one_cell}
 use Rattle.staged_layouts.proofs.Stages.{reached_back, reached_on, staged_own, staged_places, staged_texts, staged_top}
@@ -177,45 +175,3 @@ shows_law heights unread staged stages l m turns x =
       each = λ i s at q. staged d e (height_at m.design) stages lower turns x.design.staged i s at q;
       unread = λ name free. (unread d e stages name x.design.staged free).1;
     }
-
--- ---- how far alike layouts reach
-
-name_alike : (xs ys : List CellPart) (i : ℕ) → map contents xs ≡ map contents ys → name_of (slice_get xs i) ≡ name_of (slice_get ys i)
-name_alike xs ys i e = by (slice_get xs i) (slice_get ys i) refl refl
-  where
-    count : length xs ≡ length ys
-    count = sym (map_count contents xs) ∙ ap (λ (cs : List (flat.Cell × List Place)). length cs) e ∙ map_count contents ys
-
-    by : (o p : Option CellPart) → slice_get xs i ≡ o → slice_get ys i ≡ p → name_of o ≡ name_of p
-    by None None f g = refl
-    by None (Some c) f g =
-        let p = at_too ys xs i c (sym count) g in
-        absurd (let h : None ≡ Some p.0 = sym f ∙ p.1 in let z : ⊥ = cc in z)
-    by (Some p) None f g =
-        let c = at_too xs ys i p count f in
-        absurd (let h : None ≡ Some c.0 = sym g ∙ c.1 in let z : ⊥ = cc in z)
-    by (Some p) (Some c) f g =
-        let h : contents p ≡ contents c = one_entry (slice_get (map contents xs) i) (contents p) (contents c) (map_to contents xs i p f)
-        (subst (λ (cs : List (flat.Cell × List Place)). slice_get cs i ≡ Some (contents c)) (sym e) (map_to contents ys i c g)) in
-        ap (λ (z : flat.Cell × List Place). z.0.name) h
-
-apart : (a b : ℕ) → (a < b → ⊥) → (b < a → ⊥) → a ≡ b
-apart a b f g = elim (cases_lt a b) [ inl lt ↦ absurd (f lt) | inr le ↦ elim (cases_lt b a) [ inl lt ↦ absurd (g lt) | inr more ↦ omega (arith, le, more) ] ]
-
-module _ (stages : List Stage) (l k : Layout) (alike : IsAlike l k) where
-  far_there : (cell : ℕ) → IsFarOut (plain k.design) (stages_reach stages) cell → IsFarOut (plain l.design) (stages_reach stages) cell
-  far_there cell h = subst (λ (f : flat.Design). IsFarOut f (stages_reach stages) cell) (sym (same_plain l.design k.design alike.same.cells alike.same.top alike.way)) h
-
-  far_here : (cell : ℕ) → IsFarOut (plain l.design) (stages_reach stages) cell → IsFarOut (plain k.design) (stages_reach stages) cell
-  far_here cell h = subst (λ (f : flat.Design). IsFarOut f (stages_reach stages) cell) (same_plain l.design k.design alike.same.cells alike.same.top alike.way) h
-
-  one_far : (a b : List ℕ) → IsFirstFar stages l a → IsFirstFar stages k b → a ≡ b
-  one_far a b x y =
-      let same = apart x.cell y.cell (λ lt. y.before x.cell lt (far_here x.cell x.far)) (λ lt. x.before y.cell lt (far_there y.cell y.far)) in
-      x.named ∙ name_alike l.design.cells k.design.cells x.cell alike.same.cells ∙ ap (λ (i : ℕ). name_of (cell_at k.design i)) same ∙ sym y.named
-
-pub far_law : OneFarLaw
-far_law stages l k alike = record {
-  one = one_far stages l k alike;
-  none = λ b near y. near y.cell (far_there stages l k alike y.cell y.far);
-}

@@ -1,5 +1,5 @@
 -- The layers of selections that don't read one another.
-use Rattle.std.proofs.Common.{◌≡◌, inl, inr, ℕ, true, false, List, [], ◌∷◌, ◌++◌, Some, refl, sym, ◌∙◌, ap, subst}
+use Rattle.std.proofs.Common.{◌≡◌, inl, inr, ℕ, true, List, [], ◌∷◌, ◌++◌, Some, refl, sym, ◌∙◌, ap, subst}
 use Rattle.std.specs.Global.{Vec}
 use Rattle.std.proofs.lemmas.Bool.{cases_Bool, false≢true}
 use Rattle.geo_base.specs.declared.layer.LayerKey.{LayerKey}
@@ -58,6 +58,7 @@ module _ (own : OwnLaw) (depth : DepthLaw) (d e : Linked) (s : Stage) (ss : List
       }
 
   staged_only : (cell : ℕ) (key : LayerKey) (q : Square) → IsKeyOf (s ∷ ss) key → IsOwn (plain e) cell key q → IsReached (plain d) cell
+  unfolding staged_cell
   staged_only cell key q is h =
       let part = part_of e cell h.0 h.1 in
       let p = part.0 in

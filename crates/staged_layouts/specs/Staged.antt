@@ -1,7 +1,7 @@
 -- The layout on which a run works: what was read, with a further layer for each selection.
-use Rattle.std.specs.Prelude.{◌≡◌, ◌↔◌, ℕ, ◌<◌, true, List, ◌∷◌, ◌++◌, Some, length, slice_get}
+use Rattle.std.specs.Prelude.{◌≡◌, ◌↔◌, ℕ, true, List, ◌∷◌, ◌++◌, Some, length, slice_get}
 use Rattle.std.specs.Global.{Vec}
-use Rattle.std.specs.List.{All, sum_by}
+use Rattle.std.specs.List.{All}
 use Rattle.geo_base.specs.declared.layer.LayerKey.{LayerKey}
 use Rattle.geo_base.specs.declared.shapes.Square.{Square}
 use Rattle.plain_netlist.specs.Lists.{IsListed}
@@ -14,10 +14,8 @@ use Rattle.cell_graph.specs.Layering.{AreFurther, IsLayeredDesign}
 use Rattle.cell_graph.specs.Linked.{IsSound, Linked, cell_at, layer_keys, plain}
 use Rattle.gds_layout.specs.Once.{IsAlike}
 use Rattle.gds_layout.specs.declared.layout.Layout.{Layout}
-use Rattle.layout_shapes.specs.Wide.{IsFarOut}
 use Rattle.layout_shapes.specs.Writable.{FitsStream}
-use Rattle.layout_shapes.specs.Written.{name_of}
-use Rattle.select_laws.specs.Selects.{IsSelected, sight}
+use Rattle.select_laws.specs.Selects.{IsSelected}
 use Rattle.select_laws.specs.Staged.{AreInTurn, IsKeyOf, IsStaged, Stage}
 use Rattle.staged_designs.specs.Depths.{AreFound, AreFree, stage_keys}
 
@@ -58,37 +56,12 @@ abbrev pub StagedOnLaw : Type 0
 StagedOnLaw = (ss ts : List Stage) (d m e : Linked) → IsStagedDesign ss d m
     → IsStagedDesign ts m e → IsStagedDesign (ss ++ ts) d e
 
--- ---- where there is one
-
--- how far from what was drawn the layers of these selections reach at most
-abbrev pub stages_reach : List Stage → ℕ
-stages_reach stages = sum_by (λ s. (sight s.select).reach) stages
-
--- no hull, grown so far, leaves plus or minus 2^36
-abbrev pub IsNear : List Stage → Layout → Type 0
-IsNear stages l = (cell : ℕ) → IsFarOut (plain l.design) (stages_reach stages) cell → ⊥
-
--- that of the cell of this name does, and of none before it in the order of the file
-pub record IsFirstFar (stages : List Stage) (l : Layout) (name : List ℕ) : Type 0 where
-  pub cell : ℕ
-  pub far : IsFarOut (plain l.design) (stages_reach stages) cell
-  pub before : (i : ℕ) → i < cell → IsFarOut (plain l.design) (stages_reach stages) i → ⊥
-  pub named : name ≡ name_of (cell_at l.design cell)
-
 -- ---- laws
 
 -- alike layouts are alike with the same selections
 abbrev pub StagedAlikeLaw : Type 0
 StagedAlikeLaw = (stages : List Stage) (l k m n : Layout) → AreInTurn stages → IsAlike l k
     → IsStagedLayout stages l m → IsStagedLayout stages k n → IsAlike m n
-
--- and have the same hulls
-pub record AreFarAlike (stages : List Stage) (l k : Layout) : Type 0 where
-  pub one : (a b : List ℕ) → IsFirstFar stages l a → IsFirstFar stages k b → a ≡ b
-  pub none : (b : List ℕ) → IsNear stages l → IsFirstFar stages k b → ⊥
-
-abbrev pub OneFarLaw : Type 0
-OneFarLaw = (stages : List Stage) (l k : Layout) → IsAlike l k → AreFarAlike stages l k
 
 -- a layout that fits a stream does so with its selections
 abbrev pub StagedFitsLaw : Type 0
@@ -115,12 +88,16 @@ ShowsSelectionsLaw = (stages : List Stage) (l m : Layout) → AreInTurn stages
 
 -- ---- one depth of selections
 
+-- no cell has a layer on the keys
+abbrev pub AreUnused : List Stage → Linked → Type 0
+AreUnused stages d = (i : ℕ) (c : CellPart) (key : LayerKey) → cell_at d i ≡ Some c
+    → IsKeyOf stages key → IsListed key (layer_keys c.layers.items) → ⊥
+
 -- further layers of canonical lists, on keys that no cell has, and without squares in cells that
 -- the top doesn't reach
 pub record AreFresh (d : Linked) (stages : List Stage) (further : List (Vec OwnLayer)) : Type 0
   where
-    pub unused : (i : ℕ) (c : CellPart) (key : LayerKey) → cell_at d i ≡ Some c
-        → IsKeyOf stages key → IsListed key (layer_keys c.layers.items) → ⊥
+    pub unused : AreUnused stages d
     pub canonical : (i : ℕ) (layers : Vec OwnLayer) → slice_get further i ≡ Some layers
         → All (λ l. IsCanonical l.set) layers.items
     pub reached : (i : ℕ) (layers : Vec OwnLayer) (l : OwnLayer) (q : Square)

@@ -2,7 +2,7 @@
 //! written and are one, as what was read is.
 #![tactic(auto)]
 
-ghost use Rattle.staged_layouts.specs.Staged.{OneFarLaw, ShowsSelectionsLaw, StagedAlikeLaw};
+ghost use Rattle.staged_layouts.specs.Staged.{ShowsSelectionsLaw, StagedAlikeLaw};
 ghost use Rattle.staged_layouts.specs.Staged.{StagedDepthLaw, StagedFitsLaw, StagedOnLaw};
 
 use cell_graph::design_laws;
@@ -21,12 +21,11 @@ pub fn staged()
     stages();
 }
 
-/// What is found of selections that don't read one another makes a design the staged one, selections
-/// upon selections are those of one list, and alike layouts reach equally far.
+/// What is found of selections that don't read one another makes a design the staged one, and
+/// selections upon selections are those of one list.
 pub fn stagings()
     ensures depth { StagedDepthLaw }
     ensures on { StagedOnLaw }
-    ensures far { OneFarLaw }
 {
     design_laws();
     staged_designs::stages();

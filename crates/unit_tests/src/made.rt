@@ -17,8 +17,8 @@ fn one_inverter(rt: HostRuntime) -> Result<(), Fail> {
     let made = make(rt.alloc(), 1, 0)?;
     assert!(rt; made.layout.len() == 3332);
     assert!(rt; checksum(&made.layout) == 17524975726159161561);
-    assert!(rt; made.rules.len() == 783);
-    assert!(rt; checksum(&made.rules) == 9742698355729272455);
+    assert!(rt; made.rules.len() == 814);
+    assert!(rt; checksum(&made.rules) == 2668275730867555041);
     assert!(rt; made.schematic.len() == 324);
     assert!(rt; checksum(&made.schematic) == 8080628753190960074);
     Ok(())

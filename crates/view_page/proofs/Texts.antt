@@ -11,6 +11,10 @@ four_pieces out a b c d x y z w e f g h =
     h ∙ ap (λ (v : List ℕ). v ++ d) (three_pieces out a b c x y z e f g) ∙ append_assoc out (a ++ (b ++ c)) d
     ∙ ap (λ (v : List ℕ). out ++ v) (append_assoc a (b ++ c) d ∙ ap (λ (v : List ℕ). a ++ v) (append_assoc b c d))
 
+-- a text behind two pieces
+pub behind_two : (P : List ℕ → Type 0) (out a b x y z : List ℕ) → x ≡ out ++ a → y ≡ x ++ b → Adds P y z → Adds (λ text. (rest : List ℕ) × P rest × (text ≡ a ++ (b ++ rest))) out z
+behind_two P out a b x y z e f g = (a ++ (b ++ g.0), three_pieces out a b g.0 x y z e f g.1, (g.0, g.2, refl))
+
 take_all : {A : Type 0} (n : ℕ) (ys : List A) → n ≡ length ys → take n ys ≡ ys
 take_all zero [] h = refl
 take_all (suc n) [] h = absurd (omega arith)

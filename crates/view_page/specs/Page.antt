@@ -4,6 +4,7 @@ use Rattle.std.specs.Prelude.{slice_get}
 use Rattle.plain_netlist.specs.Netlist.{Circuit}
 use Rattle.spice_text.specs.Written.{AreOneByOne, AreTexts}
 use Rattle.view_cross.specs.declared.rows.Row.{Row}
+use Rattle.view_page.specs.Counts.{compared_text}
 use Rattle.view_page.specs.Notes.{IsNote}
 use Rattle.view_page.specs.Remarks.{IsRemark, Told}
 use Rattle.view_page.specs.declared.places.Places.{Places}
@@ -70,7 +71,8 @@ abbrev pub IsNumbered : Book → ℕ → List Row → List ℕ → Type 0
 IsNumbered b k rows text = IsPlaced b k (slice_get b.lefts k) (slice_get b.rights k)
     (slice_get b.places k) rows text
 
--- all pairs, behind a line that says what the page is worth
+-- all pairs, behind a line that says what the page is worth, and what was compared
 abbrev pub IsPage : Book → List (List Row) → List ℕ → Type 0
 IsPage b rows text = (pairs : List ℕ) × AreTexts (IsNumbered b) 0 rows pairs
-    × (text ≡ codes "Partners are proposed; what is sure stands in the report.\n" ++ pairs)
+    × (text ≡ codes "Partners are proposed; what is sure stands in the report.\n"
+    ++ (compared_text b.lefts b.rights ++ pairs))

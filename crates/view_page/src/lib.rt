@@ -2,6 +2,7 @@
 //! that have no partner, or one that isn't their like, by the proposal of partners.
 #![tactic(auto)]
 
+mod counts;
 mod devices;
 mod names;
 mod notes;

@@ -9,6 +9,7 @@ ghost use Rattle.view_page.specs.Page.{IsNumbered, IsPage, IsPairText, IsRowText
 ghost use Rattle.view_page.specs.Page.{right_names};
 ghost use Rattle.view_page.specs.Told.{told_by};
 
+use crate::counts::push_compared;
 use crate::names::name_at;
 use crate::notes::note;
 use crate::places::Places;
@@ -182,10 +183,10 @@ fn push_pairs(
     Ok(())
 }
 
-/// Appends the page: for each pair of circuits, by number, the lines of its rows under its name, or
-/// nothing where there are none. `rows` is the proposal of partners. Linear in the text, but for
-/// nets that don't match: for each the names of its circuits are gone through. The error is want of
-/// memory.
+/// Appends the page: how much was compared; then for each pair of circuits, by number, the lines of
+/// its rows under its name, or nothing where there are none. `rows` is the proposal of partners.
+/// Linear in the text, but for nets that don't match: for each the names of its circuits are gone
+/// through. The error is want of memory.
 pub fn push_page(
     alloc: Global,
     out: &mut Vec<u8>,
@@ -197,5 +198,6 @@ pub fn push_page(
 {
     let circuits = right_names(alloc, b.rights)?;
     out.extend_from_slice(b"Partners are proposed; what is sure stands in the report.\n")?;
+    push_compared(alloc, out, b.lefts, b.rights)?;
     push_pairs(alloc, out, b, &circuits, rows)
 }

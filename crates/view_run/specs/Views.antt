@@ -124,6 +124,15 @@ shown_lefts nl compared = (shown_left nl compared).circuits
 abbrev pub shown_rights : Netlist → Option Compared → List Circuit
 shown_rights nl compared = (shown_right nl compared).circuits
 
+-- the circuits that were compared, in pairs by their numbers; none where nothing was
+abbrev pub compared_lefts : Option Compared → List Circuit
+compared_lefts None = []
+compared_lefts (Some c) = lefts_of c
+
+abbrev pub compared_rights : Option Compared → List Circuit
+compared_rights None = []
+compared_rights (Some c) = rights_of c
+
 abbrev pub shown_logs : List (List ℕ) → Option Compared → List (List (List ℕ))
 shown_logs gates None = []
 shown_logs gates (Some c) = pair_logs (lefts_of c) gates (answers_of c)
@@ -169,19 +178,20 @@ abbrev pub AreWholeRows : Option Compared → List (List Row) → Type 0
 AreWholeRows None rows = rows ≡ []
 AreWholeRows (Some c) rows = AreWhole (lefts_of c) (rights_of c) rows
 
--- the page of these rows, with the places of what is drawn
-pub record IsPageOf (unit : ℕ) (p : Picture) (lefts rights : List Circuit) (rows : List (List Row))
+-- the page of these rows of what was compared, with the places of what is drawn
+pub record IsPageOf (unit : ℕ) (p : Picture) (compared : Option Compared) (rows : List (List Row))
     (text : List ℕ) : Type 0 where
   pub places : List Places
   pub drawn : map plain_places places ≡ map drawing_places p.drawings.items
-  pub page : IsPage (book unit p.names.circuits.items lefts rights places) rows text
+  pub page : IsPage (book unit p.names.circuits.items (compared_lefts compared)
+      (compared_rights compared) places) rows text
 
 -- the page if it is asked for
-abbrev pub IsPageAsked : Bool → ℕ → Picture → List Circuit → List Circuit → List (List Row)
+abbrev pub IsPageAsked : Bool → ℕ → Picture → Option Compared → List (List Row)
     → Option (List ℕ) → Type 0
-IsPageAsked false unit p lefts rights rows page = page ≡ None
-IsPageAsked true unit p lefts rights rows page =
-    (text : List ℕ) × (page ≡ Some text) × IsPageOf unit p lefts rights rows text
+IsPageAsked false unit p compared rows page = page ≡ None
+IsPageAsked true unit p compared rows page =
+    (text : List ℕ) × (page ≡ Some text) × IsPageOf unit p compared rows text
 
 -- the circuits were merged once more before they were answered
 abbrev pub again_in : Option Compared → Bool
@@ -212,8 +222,7 @@ pub record AreWritten (l : Layout) (r : Rules) (p : Picture) (one two : Netlist)
       (l.header.unit_pm * 1000) r p
       (shown_logs (gate_log l.design (name_of (slice_get one.circuits top)) bad) compared)
       (shown_lefts one compared) (shown_rights two compared) rows (all_answers compared) text
-  pub page_is : IsPageAsked paged l.header.unit_pm p (shown_lefts one compared)
-      (shown_rights two compared) rows page
+  pub page_is : IsPageAsked paged l.header.unit_pm p compared rows page
 
 -- the same of the circuits as they were answered, over the picture of the aligned ones
 pub record AreShown (l : Layout) (r : Rules) (p : Picture) (one two : Netlist)

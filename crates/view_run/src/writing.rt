@@ -3,7 +3,7 @@
 ghost use Rattle.std.specs.Prelude.{◌≡◌, ◌<◌, IfOk, length, map};
 ghost use Rattle.std.specs.List.{All};
 ghost use Rattle.std.specs.Option.{option_map};
-ghost use Rattle.net_model.specs.Rows.{plain_netlist};
+ghost use Rattle.net_model.specs.Rows.{plain_circuit, plain_netlist};
 ghost use Rattle.rule_text.specs.Seen.{rules_seen};
 ghost use Rattle.view_cross.specs.Whole.{AreWhole};
 ghost use Rattle.view_file.specs.Cross.{lists_of};
@@ -11,7 +11,8 @@ ghost use Rattle.view_file.specs.Layout.{IsSmallPicture};
 ghost use Rattle.view_labels.specs.Logs.{gate_log};
 ghost use Rattle.view_run.specs.Showing.{IsDatabaseOf, lefts_in, rights_in};
 ghost use Rattle.view_run.specs.Views.{AreAllPaired, AreRowsOf, AreWholeRows, CanBeOrdered};
-ghost use Rattle.view_run.specs.Views.{IsPageAsked, shown_left, shown_right};
+ghost use Rattle.view_run.specs.Views.{IsPageAsked, compared_lefts, compared_rights};
+ghost use Rattle.view_run.specs.Views.{shown_left};
 
 use crate::merging::Both;
 use crate::places::places;
@@ -20,7 +21,7 @@ use fixed_num::Femto;
 use gds_layout::Layout;
 use list_base::number;
 use match_report::Compared;
-use net_model::Netlist;
+use net_model::{Circuit, Netlist};
 use net_names::Name;
 use rule_text::RuleSet;
 use std::alloc::{AllocError, Global};
@@ -41,14 +42,17 @@ pub fn shown_circuits<'a>(both: &'a Both, compared: &'a Option<Compared>) -> &'a
     }
 }
 
-// The circuits of the schematic as they are compared.
-fn shown_schematic<'a>(both: &'a Both, compared: &'a Option<Compared>) -> &'a Netlist
-    ensures { plain_netlist result.now
-        ≡ shown_right (plain_netlist both.now.schematic) compared.now }
+// The circuits that were compared, of the layout and of the schematic; none where nothing was.
+fn compared_circuits(compared: &Option<Compared>) -> (&[Circuit], &[Circuit])
+    ensures lefts { map plain_circuit result.0.now ≡ compared_lefts compared.now }
+    ensures rights { map plain_circuit result.1.now ≡ compared_rights compared.now }
 {
     match compared {
-        Some(found) => &found.right,
-        None => &both.schematic,
+        Some(found) => (
+            found.left.circuits.as_slice(),
+            found.right.circuits.as_slice(),
+        ),
+        None => (&[], &[]),
     }
 }
 
@@ -131,7 +135,7 @@ pub fn propose(
     }
 }
 
-/// The page of what was compared, where it is asked for; of nothing the line that begins it.
+/// The page of what was compared, where it is asked for; of nothing the lines that begin it.
 pub fn write_page(
     alloc: Global,
     showing: &Showing<'_>,
@@ -139,19 +143,19 @@ pub fn write_page(
     paged: bool,
 ) -> Result<Option<Vec<u8>>, AllocError>
     ensures { IfOk result (λ page. IsPageAsked paged showing.now.layout.now.header.unit_pm
-        showing.now.picture.now (lefts_in showing.now) (rights_in showing.now) (lists_of rows.now)
+        showing.now.picture.now showing.now.compared.now (lists_of rows.now)
         (option_map (λ text. text.items) page)) }
 {
     if !paged {
         return Ok(None);
     }
-    let (both, compared) = (showing.both, showing.compared);
+    let (lefts, rights) = compared_circuits(showing.compared);
     let shown = places(alloc, &showing.picture.drawings)?;
     let book = Book {
         unit: showing.layout.header.unit_pm,
         names: &showing.picture.names.circuits,
-        lefts: &shown_circuits(both, compared).circuits,
-        rights: &shown_schematic(both, compared).circuits,
+        lefts,
+        rights,
         places: &shown,
     };
     let mut text = Vec::new(alloc);

@@ -26,6 +26,15 @@ fill_name-requires-clause-name c =
     let m = had.1 in let k = c.requires.count in
     omega (arith, m, k, lt)
 
+pub fill_name-requires-clause-flat : goal.fill_name-requires-clause-flat
+fill_name-requires-clause-flat c = λ x derived far_is at.
+    let had = c.loop-flat.invariant in
+    let steps = (c.in-Some.ensures {u = tt}).steps.0 in
+    let flats = c.args.flats.items in let flat = c.in-Some.flat in
+    let there = at_middle flats c.loop-flat.yielded c.next.new.self.rest.items c.loop-flat.flat-iterator.rest.items flat had.0 steps in
+    let item : get_or flats c.loop-flat.name [] ≡ flat = get_or_from_slice_get flats c.loop-flat.name flat [] (subst (λ n. slice_get flats n ≡ Some flat) (sym had.1) there) in
+    subst (IsFlatAround c.args.group.now.reach c.args.work.now.design.now c.args.work.now.cell c.args.looks.now x) item (c.requires.flats c.loop-flat.name x derived far_is at)
+
 pub loop-flat-init : goal.loop-flat-init
 loop-flat-init c = (search rules, refl, start c.args.group.now.reach c.args.work.now.design.now c.args.work.now.cell (formulas c.args.work.now.rules.now.names.items) c.args.layers.now.items)
 
@@ -37,11 +46,9 @@ loop-flat-preserved c =
     let m = had.1 in
     let names = c.args.work.now.rules.now.names.items in let name = c.loop-flat.name in let d = c.args.work.now.design.now in let far = c.args.group.now.reach in
     let flats = c.args.flats.items in let flat = c.in-Some.flat in let yielded = c.loop-flat.yielded in
-    let item : get_or flats name [] ≡ flat = get_or_from_slice_get flats name flat [] (subst (λ n. slice_get flats n ≡ Some flat) (sym m) there) in
     let e = c.in_ok-fill_name.ensures in (
       one_yielded flats yielded c.next.new.self.rest.items c.loop-flat.flat-iterator.rest.items flat had.0 steps,
       ap (λ (n : ℕ). n + 1) m ∙ sym (length-append yielded (flat ∷ [])),
       finds_more far d c.args.work.now.cell name names c.args.layers.now.items c.loop-flat.layers.items c.fill_name.new.layers.items had.2 e.count
-          (λ x derived far_is at. e.here x derived far_is at (subst (IsFlatAround far d c.args.work.now.cell c.args.looks.now x) item (c.requires.flats name x derived far_is at)))
-          e.none e.rest,
+          e.here e.none e.rest,
     )

@@ -16,7 +16,7 @@ index-requires c =
     omega (arith, trees, count, lt)
 
 pub returns-then-not-index-clause-here : goal.returns-then-not-index-clause-here
-returns-then-not-index-clause-here c = λ x derived far at flat.
+returns-then-not-index-clause-here c = λ x derived far at.
     let trees = tree_count c.args.work.now.rules.now.names.items in let count = c.requires.group.count in let lt = c.requires.name in
     let members = c.args.group.now.members.items in let b = c.index.result.now in
     let inside : c.args.name < length members = omega (arith, trees, count, lt) in
@@ -47,9 +47,17 @@ pub returns-clause-count : goal.returns-clause-count
 returns-clause-count c = set_long c.args.layers.now.items c.put.new.layers.items c.args.name c.in_ok-layer.layer c.put.ensures
 
 pub returns-clause-here : goal.returns-clause-here
-returns-clause-here c = λ x derived far at flat.
+returns-clause-here c = λ x derived far at.
     subst (IsLocalLayer (plain c.args.work.now.design.now) x c.args.work.now.cell) (sym (set_here c.args.layers.now.items c.put.new.layers.items c.args.name c.in_ok-layer.layer c.put.ensures c.requires.layers))
-    (c.in_ok-layer.ensures x flat.0 derived far at flat.1 flat.2)
+    (c.in_ok-layer.ensures x derived far at)
 
 pub returns-clause-rest : goal.returns-clause-rest
 returns-clause-rest c = set_other c.args.layers.now.items c.put.new.layers.items c.args.name c.in_ok-layer.layer c.put.ensures
+
+pub derived_layer-requires-clause-member : goal.derived_layer-requires-clause-member
+derived_layer-requires-clause-member c =
+    let trees = tree_count c.args.work.now.rules.now.names.items in let count = c.requires.group.count in let lt = c.requires.name in
+    let members = c.args.group.now.members.items in let b = c.index.result.now in
+    let inside : c.args.name < length members = omega (arith, trees, count, lt) in
+    let same = mark_at members c.args.name b inside c.index.ensures in
+    (c.requires.group.members c.args.name inside).0 (same ∙ c.if-not-index.false)

@@ -6,6 +6,6 @@ use Rattle.layer_phase.proofs.layers.undisturbed.Goals as goal
 
 pub returns : goal.returns
 returns c =
-    if_ok _ _ c.local_squares.result
-    (λ r h q. h q ∙ ap (λ b. (covers c.args.squares q && not b) && not (covers c.args.calm.now q)) (ap (λ (l : List Rect). covers l q) c.set.ensures ∙ c.in_ok-stirred.ensures.squares q))
-    c.local_squares.ensures
+    if_ok _ _ c.without.result
+    (λ r h q. h q ∙ ap (λ b. covers c.args.squares q && not b) (ap (λ (l : List Rect). covers l q) c.set.ensures ∙ c.in_ok-stirred.ensures.squares q))
+    c.without.ensures

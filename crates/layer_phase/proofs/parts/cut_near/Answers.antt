@@ -1,4 +1,4 @@
-use Rattle.std.proofs.Common.{◌≡◌, ◌∙◌, ◌^◌, ◌&&◌, ◌||◌, not, Bool, true, false, ℕ, List, arith, ap, refl, sym}
+use Rattle.std.proofs.Common.{◌≡◌, ◌∙◌, ◌^◌, ◌&&◌, not, ℕ, List, arith, ap, sym}
 use Rattle.geo_base.specs.Rects.{has, grown}
 use Rattle.geo_base.specs.declared.shapes.Rect.{Rect}
 use Rattle.rect_sets.specs.Rects.{covers}
@@ -7,18 +7,14 @@ use Rattle.layer_phase.proofs.Around.{around_none, around_same, grown_within, se
 use Rattle.layer_phase.proofs.Results.{if_ok}
 use Rattle.layer_phase.proofs.parts.cut_near.Goals as goal
 
-only : (here : Bool) (b : Bool) → ((here || false) && not b) ≡ (here && not b)
-only true b = refl
-only false b = refl
-
 pub returns-then-reach-eq0 : goal.returns-then-reach-eq0
 returns-then-reach-eq0 c =
     let t = c.if-reach-eq0.true in
     let e : c.args.reach ≡ 0 = omega arith in
-    if_ok _ _ c.combine_rects.result
-    (λ r h q. h q ∙ ap (λ (l : List Rect). (has c.args.window.now q || false) && not (covers l q)) c.deref.ensures.value ∙ only (has c.args.window.now q) (covers c.args.there.items q)
+    if_ok _ _ c.cut.result
+    (λ r h q. h q ∙ ap (λ (l : List Rect). has c.args.window.now q && not (covers l q)) c.deref.ensures.value
     ∙ ap (λ b. has c.args.window.now q && not b) (sym (around_none c.args.there.items q) ∙ ap (λ (n : ℕ). covers (around n c.args.there.items) q) (sym e)))
-    c.combine_rects.ensures
+    c.cut.ensures
 
 pub sized-requires-clause-within : goal.sized-requires-clause-within
 sized-requires-clause-within c =
@@ -28,8 +24,8 @@ sized-requires-clause-within c =
 
 pub returns : goal.returns
 returns c =
-    if_ok _ _ c.combine_rects-2.result
-    (λ r h q. h q ∙ ap (λ (l : List Rect). (has c.args.window.now q || false) && not (covers l q)) c.rects.ensures.list ∙ only (has c.args.window.now q) (covers c.in_ok-stirred.stirred q)
+    if_ok _ _ c.cut-2.result
+    (λ r h q. h q ∙ ap (λ (l : List Rect). has c.args.window.now q && not (covers l q)) c.rects.ensures.list
     ∙ ap (λ b. has c.args.window.now q && not b)
     (c.in_ok-stirred.ensures.squares q ∙ around_same c.args.reach c.in_ok-set.set c.args.there.items q c.rects-rects.ensures.sound c.requires.rects c.in_ok-set.ensures))
-    c.combine_rects-2.ensures
+    c.cut-2.ensures

@@ -1,5 +1,5 @@
-use Rattle.netlist_turn.proofs.KeptCards.{cards_kept}
+use Rattle.netlist_turn.proofs.KeptCards.{cards_kept, cards_start}
 use Rattle.netlist_turn.proofs.laws.kept_laws.Goals as goal
 
 pub returns : goal.returns
-returns c = cards_kept
+returns c = record { cards = cards_kept; start = cards_start }

@@ -31,5 +31,5 @@ returns-clause-written c =
       proposed = c.in_ok-rows.ensures.proposed;
       database = database_as l (rules_seen c.args.showing.now.rules.now) p one two o c.circuit_name-name.result.now _ c.args.told.bad.now c.args.told.bad.now (lists_of c.deref.result.now) rows c.in_ok-text.text.items c.circuit_name-name.ensures refl
           (ap lists_of c.deref.ensures.value) c.in_ok-text.ensures;
-      page_is = subst (λ (ls : List (List Row)). IsPageAsked c.args.told.paged l.header.unit_pm p (shown_lefts one o) (shown_rights two o) ls page) (ap lists_of c.deref-2.ensures.value) c.in_ok-page.ensures;
+      page_is = subst (λ (ls : List (List Row)). IsPageAsked c.args.told.paged l.header.unit_pm p o ls page) (ap lists_of c.deref-2.ensures.value) c.in_ok-page.ensures;
     }

@@ -1,0 +1,55 @@
+-- A design with the layers of the rules' selections.
+use Rattle.std.specs.Prelude.{◌≡◌, ℕ, suc, List, Some, map}
+use Rattle.std.specs.Global.{Vec}
+use Rattle.cell_graph.specs.Layering.{IsLayerFault}
+use Rattle.cell_graph.specs.Linked.{Linked, cell_at, keeping, layer_keys}
+use Rattle.cell_graph.specs.declared.cells.CellPart.{CellPart}
+use Rattle.cell_graph.specs.declared.cells.OwnLayer.{OwnLayer}
+use Rattle.cell_graph.specs.declared.drafts.LinkFault.{LinkFault}
+use Rattle.cell_graph.specs.declared.drafts.LinkFault.TheVariants.{CoordinateRange, NoMemory}
+use Rattle.flat_layout.specs.declared.way.Way.TheVariants.{Disturbed}
+use Rattle.geo_base.specs.Layers.{IsStreamKey}
+use Rattle.geo_base.specs.declared.layer.LayerKey.{LayerKey}
+use Rattle.plain_netlist.specs.Lists.{IsListed}
+use Rattle.rule_stages.specs.Stages.{at_depth, from_depth, stage_of}
+use Rattle.rule_text.specs.Rules.{Rules}
+use Rattle.rule_text.specs.declared.rules.SelectRule.{SelectRule}
+use Rattle.select_laws.specs.Staged.{IsKeyOf, Stage}
+use Rattle.staged_designs.specs.Depths.{AreFound, stage_keys}
+use Rattle.staged_layouts.specs.Staged.{IsStagedDesign}
+
+abbrev pub stages_by : Rules → List SelectRule → List Stage
+stages_by r selected = map (stage_of r) selected
+
+-- all layers that a cell holds are ones that a stream may have
+abbrev pub AreDrawn : Linked → Type 0
+AreDrawn d = (i : ℕ) (c : CellPart) (key : LayerKey) → cell_at d i ≡ Some c
+    → IsListed key (layer_keys c.layers.items) → IsStreamKey key
+
+-- no cell holds one of these layers
+abbrev pub AreUnused : Linked → List Stage → Type 0
+AreUnused d stages = (i : ℕ) (c : CellPart) (key : LayerKey) → cell_at d i ≡ Some c
+    → IsKeyOf stages key → IsListed key (layer_keys c.layers.items) → ⊥
+
+-- what cells hold of selections would bring a hull out of range
+pub record IsFarBy (r : Rules) (d : Linked) (selected : List SelectRule) (fault : LinkFault) :
+    Type 0 where
+  pub further : List (Vec OwnLayer)
+  pub found : AreFound d (stages_by r selected) further
+  pub far : IsLayerFault d.cells (stage_keys (stages_by r selected)) further fault
+
+abbrev pub IsDepthFault : Rules → Linked → List SelectRule → LinkFault → Type 0
+IsDepthFault r d selected (CoordinateRange name) = IsFarBy r d selected (CoordinateRange name)
+IsDepthFault r d selected fault = fault ≡ NoMemory
+
+-- those of a depth over the design with all before
+pub record IsFarStage (r : Rules) (d : Linked) (fault : LinkFault) : Type 0 where
+  pub count : ℕ
+  pub design : Linked
+  pub staged : IsStagedDesign (stages_by r (from_depth r 1 count)) (keeping Disturbed d) design
+  pub far : IsFarBy r design (at_depth r (suc count)) fault
+
+-- a hull out of range, by its cell's name, or want of memory
+abbrev pub IsStageFault : Rules → Linked → LinkFault → Type 0
+IsStageFault r d (CoordinateRange name) = IsFarStage r d (CoordinateRange name)
+IsStageFault r d fault = fault ≡ NoMemory
