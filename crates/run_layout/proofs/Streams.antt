@@ -1,13 +1,12 @@
 -- The layers of a layout that was read are ones that a stream may have: their numbers are of two bytes.
-use Rattle.std.proofs.Common.{◌≡◌, ◌⊎◌, inl, inr, ℕ, zero, suc, ◌+◌, ◌*◌, ◌<◌, ◌^◌, Bool, true, false, ◌==◌, ◌||◌, List, [], ◌∷◌, ◌++◌, map, length, slice_get, slice_index, Option, Some, None, cond, sym, ap, subst, arith}
+use Rattle.std.proofs.Common.{◌≡◌, ◌⊎◌, inl, inr, ℕ, zero, suc, ◌+◌, ◌*◌, ◌<◌, ◌^◌, Bool, true, false, ◌==◌, ◌||◌, List, [], ◌∷◌, ◌++◌, length, slice_get, slice_index, Option, Some, None, cond, sym, subst, arith}
 use Rattle.std.specs.List.{AllByRecursion, list_any}
 use Rattle.std.proofs.lemmas.Option.{slice_get_within}
 use Rattle.base_laws.proofs.Items.{item_at}
 use Rattle.geo_base.specs.Layers.{IsStreamKey, is_same_key}
 use Rattle.geo_base.specs.declared.layer.LayerKey.{LayerKey}
 use Rattle.plain_netlist.specs.Lists.{IsListed}
-use Rattle.cell_graph.specs.Linked.{cell_at, layer_keys}
-use Rattle.cell_graph.specs.declared.cells.CellPart.{CellPart}
+use Rattle.cell_graph.specs.Linked.{layer_keys}
 use Rattle.cell_graph.specs.declared.cells.OwnLayer.{OwnLayer}
 use Rattle.cell_graph.specs.declared.drafts.CellDraft.{CellDraft}
 use Rattle.gds_records.specs.Records.{IsBytes, NoRecords, Records, ◌▸◌}
