@@ -30,12 +30,12 @@ use Rattle.select_laws.specs.Staged.{IsKeyOf}
 
 found_bytes : (wanted bound : ℕ → Bool) (rs : Records) → Passes rs → IsBytes (found wanted bound rs)
 found_bytes wanted bound NoRecords h = λ i. omega arith
-found_bytes wanted bound (before ▸ r) h = by (wanted r.kind) (bound r.kind)
+found_bytes wanted bound (before ▸ r) h = by (wanted r.kind) (bound r.kind) (found_bytes wanted bound before h.0)
   where
-    by : (a b : Bool) → IsBytes (cond a r.body (cond b [] (found wanted bound before)))
-    by true b = h.1.bytes
-    by false true = λ i. omega arith
-    by false false = found_bytes wanted bound before h.0
+    by : (a b : Bool) → IsBytes (found wanted bound before) → IsBytes (cond a r.body (cond b [] (found wanted bound before)))
+    by true b rest = h.1.bytes
+    by false true rest = λ i. omega arith
+    by false false rest = rest
 
 two_bytes : (bytes : List ℕ) → IsBytes bytes → number bytes < 2 ^ 16
 two_bytes bytes h = by (length bytes == 2)
@@ -75,12 +75,12 @@ open_short rs h = by (opened rs == BOUNDARY) (opened rs == PATH) (opened rs == B
 
 shapes_short : (rs : Records) → Passes rs → AllByRecursion IsShort (shapes_of rs)
 shapes_short NoRecords h = tt
-shapes_short (before ▸ r) h = by (is_cell_bound r.kind) (r.kind == ENDEL)
+shapes_short (before ▸ r) h = by (is_cell_bound r.kind) (r.kind == ENDEL) (shapes_short before h.0)
   where
-    by : (a b : Bool) → AllByRecursion IsShort (cond a [] (cond b (shapes_of before ++ open_shapes before) (shapes_of before)))
-    by true b = tt
-    by false true = shorts_on (shapes_of before) (open_shapes before) (shapes_short before h.0) (open_short before h.0)
-    by false false = shapes_short before h.0
+    by : (a b : Bool) → AllByRecursion IsShort (shapes_of before) → AllByRecursion IsShort (cond a [] (cond b (shapes_of before ++ open_shapes before) (shapes_of before)))
+    by true b rest = tt
+    by false true rest = shorts_on (shapes_of before) (open_shapes before) rest (open_short before h.0)
+    by false false rest = rest
 
 -- ---- structures of a stream
 
@@ -103,11 +103,11 @@ open_cell_short rs h = by (is_empty (trimmed (cell_part STRNAME rs)))
 
 cells_short : (rs : Records) → Passes rs → AllByRecursion AreShort (cells_of rs)
 cells_short NoRecords h = tt
-cells_short (before ▸ r) h = by (r.kind == ENDSTR)
+cells_short (before ▸ r) h = by (r.kind == ENDSTR) (cells_short before h.0)
   where
-    by : (b : Bool) → AllByRecursion AreShort (cond b (cells_of before ++ open_cells before) (cells_of before))
-    by true = cells_on (cells_of before) (open_cells before) (cells_short before h.0) (open_cell_short before h.0)
-    by false = cells_short before h.0
+    by : (b : Bool) → AllByRecursion AreShort (cells_of before) → AllByRecursion AreShort (cond b (cells_of before ++ open_cells before) (cells_of before))
+    by true rest = cells_on (cells_of before) (open_cells before) rest (open_cell_short before h.0)
+    by false rest = rest
 
 -- ---- the layers of a cell
 
