@@ -34,7 +34,7 @@ use netlist_file::flat_netlist;
 use report_file::read_alignable;
 use rule_text::RuleSet;
 use run_layout::run_layouts;
-use shapes_file::covers_flat;
+use shapes_file::{covers_flat, writable};
 use std::alloc::Global;
 use std::sync::Wait;
 use std::thread::Threads;
@@ -85,6 +85,7 @@ fn prepare_task<R: Threads + Wait + Sync, D: Depot, G: Gate + Sync>(
     ensures stops { IfErr result (λ why. Stops (Some (paths_of task)) (D.state depot.old)
         (D.state depot.new) (stopped why)) }
 {
+    writable();
     run_layouts();
     covers_flat();
     flat_netlist();
