@@ -1,12 +1,13 @@
--- The layers of a layout that was read are ones that a stream may have: their numbers are of two bytes.
-use Rattle.std.proofs.Common.{◌≡◌, ◌⊎◌, inl, inr, ℕ, zero, suc, ◌+◌, ◌*◌, ◌<◌, ◌^◌, Bool, true, false, ◌==◌, ◌||◌, List, [], ◌∷◌, ◌++◌, length, slice_get, slice_index, Option, Some, None, cond, sym, subst, arith}
+-- All layers of a layout that was read are ones that a stream may have: their numbers have 16 bits.
+use Rattle.std.proofs.Common.{◌≡◌, ◌⊎◌, inl, inr, ℕ, zero, suc, ◌+◌, ◌*◌, ◌<◌, ◌^◌, Bool, true, false, ◌==◌, ◌||◌, List, [], ◌∷◌, ◌++◌, map, length, slice_get, slice_index, Option, Some, None, cond, sym, ap, subst, arith}
 use Rattle.std.specs.List.{AllByRecursion, list_any}
 use Rattle.std.proofs.lemmas.Option.{slice_get_within}
 use Rattle.base_laws.proofs.Items.{item_at}
 use Rattle.geo_base.specs.Layers.{IsStreamKey, is_same_key}
 use Rattle.geo_base.specs.declared.layer.LayerKey.{LayerKey}
 use Rattle.plain_netlist.specs.Lists.{IsListed}
-use Rattle.cell_graph.specs.Linked.{layer_keys}
+use Rattle.cell_graph.specs.Linked.{cell_at, layer_keys}
+use Rattle.cell_graph.specs.declared.cells.CellPart.{CellPart}
 use Rattle.cell_graph.specs.declared.cells.OwnLayer.{OwnLayer}
 use Rattle.cell_graph.specs.declared.drafts.CellDraft.{CellDraft}
 use Rattle.gds_records.specs.Records.{IsBytes, NoRecords, Records, ◌▸◌}
@@ -19,18 +20,17 @@ use Rattle.gds_layout.specs.Drafts.{AreDraftsOf}
 use Rattle.gds_layout.specs.Layouts.{IsRead}
 use Rattle.gds_layout.specs.Shapes.{keys_behind, with_key}
 use Rattle.gds_layout.specs.declared.layout.Layout.{Layout}
-use Rattle.select_flow.specs.Stages.{AreDrawn}
 
 -- ---- numbers of two bytes
 
 found_bytes : (wanted bound : ℕ → Bool) (rs : Records) → Passes rs → IsBytes (found wanted bound rs)
 found_bytes wanted bound NoRecords h = λ i. omega arith
-found_bytes wanted bound (before ▸ r) h = by (wanted r.kind) (bound r.kind)
+found_bytes wanted bound (before ▸ r) h = by (wanted r.kind) (bound r.kind) (found_bytes wanted bound before h.0)
   where
-    by : (a b : Bool) → IsBytes (cond a r.body (cond b [] (found wanted bound before)))
-    by true b = h.1.bytes
-    by false true = λ i. omega arith
-    by false false = found_bytes wanted bound before h.0
+    by : (a b : Bool) → IsBytes (found wanted bound before) → IsBytes (cond a r.body (cond b [] (found wanted bound before)))
+    by true b rest = h.1.bytes
+    by false true rest = λ i. omega arith
+    by false false rest = rest
 
 two_bytes : (bytes : List ℕ) → IsBytes bytes → number bytes < 2 ^ 16
 two_bytes bytes h = by (length bytes == 2)
@@ -73,12 +73,12 @@ open_short rs h = by (opened rs == BOUNDARY) (opened rs == PATH) (opened rs == B
 
 shapes_short : (rs : Records) → Passes rs → AllByRecursion IsShort (shapes_of rs)
 shapes_short NoRecords h = tt
-shapes_short (before ▸ r) h = by (is_cell_bound r.kind) (r.kind == ENDEL)
+shapes_short (before ▸ r) h = by (is_cell_bound r.kind) (r.kind == ENDEL) (shapes_short before h.0)
   where
-    by : (a b : Bool) → AllByRecursion IsShort (cond a [] (cond b (shapes_of before ++ open_shapes before) (shapes_of before)))
-    by true b = tt
-    by false true = shorts_on (shapes_of before) (open_shapes before) (shapes_short before h.0) (open_short before h.0)
-    by false false = shapes_short before h.0
+    by : (a b : Bool) → AllByRecursion IsShort (shapes_of before) → AllByRecursion IsShort (cond a [] (cond b (shapes_of before ++ open_shapes before) (shapes_of before)))
+    by true b rest = tt
+    by false true rest = shorts_on (shapes_of before) (open_shapes before) rest (open_short before h.0)
+    by false false rest = rest
 
 -- ---- structures of a stream
 
@@ -101,11 +101,11 @@ open_cell_short rs h = by (is_empty (trimmed (cell_part STRNAME rs)))
 
 cells_short : (rs : Records) → Passes rs → AllByRecursion AreShort (cells_of rs)
 cells_short NoRecords h = tt
-cells_short (before ▸ r) h = by (r.kind == ENDSTR)
+cells_short (before ▸ r) h = by (r.kind == ENDSTR) (cells_short before h.0)
   where
-    by : (b : Bool) → AllByRecursion AreShort (cond b (cells_of before ++ open_cells before) (cells_of before))
-    by true = cells_on (cells_of before) (open_cells before) (cells_short before h.0) (open_cell_short before h.0)
-    by false = cells_short before h.0
+    by : (b : Bool) → AllByRecursion AreShort (cells_of before) → AllByRecursion AreShort (cond b (cells_of before ++ open_cells before) (cells_of before))
+    by true rest = cells_on (cells_of before) (open_cells before) rest (open_cell_short before h.0)
+    by false rest = rest
 
 -- ---- the layers of a cell
 
@@ -138,8 +138,9 @@ draft_short (c ∷ cells) (x ∷ ds) zero d all h e k l =
     behind_short c.shapes [] all.0 (λ j g. absurd g) k (subst (λ (ks : List LayerKey). IsListed k ks) keys (subst (λ (y : CellDraft). IsListed k (layer_keys y.layers.items)) (sym same) l))
 draft_short (c ∷ cells) (x ∷ ds) (suc i) d all h e k l = draft_short cells ds i d all.1 h.1 e k l
 
-pub drawn : (bytes : List ℕ) (top : Option (List ℕ)) (l : Layout) → IsRead bytes top l → AreDrawn l.design
-drawn bytes top l h i c k at listed =
+-- of each cell that was read
+pub stream_keys : (bytes : List ℕ) (top : Option (List ℕ)) (l : Layout) → IsRead bytes top l → (i : ℕ) (c : CellPart) → cell_at l.design i ≡ Some c → (k : LayerKey) → IsListed k (layer_keys c.layers.items) → IsStreamKey k
+stream_keys bytes top l h i c at k listed =
     let of = h.layout in
     let within = slice_get_within l.design.cells i c at in
     let draft = item_at of.drafts i (let count = of.linked.count in omega (arith, within, count)) in

@@ -13,6 +13,7 @@ use gds_layout::{Layout, LayoutFault};
 use job_board::{Crew, Gate};
 use rule_stages::stages;
 use rule_text::RuleSet;
+use select_flow::staged as staged_design;
 use staged_layouts::staged;
 use std::alloc::Global;
 use std::sync::Wait;
@@ -49,7 +50,7 @@ pub fn run_layout<R: Threads + Wait + Sync, G: Gate + Sync>(
         cell_dates,
         design,
     } = layout;
-    match select_flow::staged(alloc, design, rules, crew) {
+    match staged_design(alloc, design, rules, crew) {
         Ok(design) => Ok(Layout {
             header,
             cell_dates,
