@@ -2,7 +2,9 @@
 use Rattle.std.proofs.Common.{◌≡◌, ℕ, ◌+◌, ◌-◌, ◌^◌, ◌<◌, List, Option, Some, None, refl, subst, sym, ◌∙◌}
 use Rattle.lvs_outside.specs.Store.{HasRoom, Store, Told}
 use Rattle.gds_layout.specs.declared.layout.Layout.{Layout}
+use Rattle.layout_shapes.specs.Writable.{FitsStream}
 use Rattle.run_layout.specs.RunLayout.{IsRunLayout, RunFitsLaw}
+use Rattle.shapes_file.specs.Read.{FitsStreamLaw}
 use Rattle.netlist_file.specs.Flat.{ShowsFlatLaw}
 use Rattle.rule_text.specs.Rules.{Rules}
 use Rattle.rule_text.specs.Reading.{Means}
@@ -35,8 +37,15 @@ pub reads_none : (o : LayoutOutputs) → schematic_path (layout_outputs o) ≡ N
 reads_none (files.Shapes shapes) = refl
 reads_none (files.Netlist shapes netlist) = refl
 
+-- the layouts on which runs work fit a stream
+abbrev pub RunLayoutsFit : Type 0
+RunLayoutsFit = (bytes : List ℕ) (top : Option (List ℕ)) (r : Rules) (l : Layout) → IsRunLayout bytes top r l → FitsStream l
+
+pub run_fits : FitsStreamLaw → RunFitsLaw → RunLayoutsFit
+run_fits read law bytes top r l x = law bytes top r l x (read bytes top x.drawn x.is.read)
+
 pub ready_alone : (p : Paths) (old mid new : Store) (r : Rules) (l : Layout) (o : Output) → p.shared ≡ None → ReadsFiles p.outputs → Quiet old mid → ReadAs old mid p.rules (λ bytes. Means bytes r) → IsSound r
-    → ReadAs mid new p.layout (λ bytes. IsRunLayout bytes p.top r l) → RunFitsLaw → CoversFlatLaw → ShowsFlatLaw → IsOutput p.outputs l r o → IsReady (Some p) old new o
+    → ReadAs mid new p.layout (λ bytes. IsRunLayout bytes p.top r l) → RunLayoutsFit → CoversFlatLaw → ShowsFlatLaw → IsOutput p.outputs l r o → IsReady (Some p) old new o
 ready_alone p old mid new r l o apart reads quiet rules sound layout fits covers shows made =
     let a = verdict_of o.verdict in
     record {
@@ -60,7 +69,7 @@ report_so : (p : Paths) (file : List ℕ → Told) (done : Done) (P : TextsFact)
 report_so p file done P reads h = subst (λ (f : List ℕ → Told). ListsReport f p done.files P) (sym (told_files p.outputs file reads)) h
 
 pub ready_beside : (p : Paths) (old mid late new : Store) (r : Rules) (l : Layout) (path : List ℕ) (o : Output) → p.shared ≡ None → ReadsFiles p.outputs → schematic_path p.outputs ≡ Some path → Quiet old mid → Quiet mid late
-    → ReadAs old mid p.rules (λ bytes. Means bytes r) → IsSound r → ReadAs mid late p.layout (λ bytes. IsRunLayout bytes p.top r l) → RunFitsLaw → CoversFlatLaw → ShowsFlatLaw → VerdictsLaw → MatchLaw
+    → ReadAs old mid p.rules (λ bytes. Means bytes r) → IsSound r → ReadAs mid late p.layout (λ bytes. IsRunLayout bytes p.top r l) → RunLayoutsFit → CoversFlatLaw → ShowsFlatLaw → VerdictsLaw → MatchLaw
     → IsBeside p.outputs l r late new path o → IsReady (Some p) old new o
 ready_beside p old mid late new r l path o apart reads beside quiet later rules sound layout fits covers shows judged matches made =
     let a = verdict_of o.verdict in

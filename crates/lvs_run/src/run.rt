@@ -34,7 +34,7 @@ use netlist_file::flat_netlist;
 use report_file::read_alignable;
 use rule_text::RuleSet;
 use run_layout::run_layouts;
-use shapes_file::covers_flat;
+use shapes_file::{covers_flat, writable};
 use std::alloc::Global;
 use std::sync::Wait;
 use std::thread::Threads;
@@ -85,6 +85,7 @@ fn prepare_task<R: Threads + Wait + Sync, D: Depot, G: Gate + Sync>(
     ensures stops { IfErr result (λ why. Stops (Some (paths_of task)) (D.state depot.old)
         (D.state depot.new) (stopped why)) }
 {
+    writable();
     run_layouts();
     covers_flat();
     flat_netlist();
@@ -204,7 +205,9 @@ pub fn run_lvs<R: Threads + Wait + Sync, D: Depot, S: Sink, G: Gate + Sync>(
         (D.state depot.new) (S.state out.old) (S.state out.new) (answer_of result) }
     // After each answer of a run that writes its files the shapes file has in each cell exactly the
     // squares that the cell holds itself, and covers exactly the flat rules' unit squares of the
-    // layout, where the files are told.
+    // layout, where the files are told. The layout is what was read, with a further layer for each
+    // selection of the rules, which is the flat selection (`IsRunLayout`); so it is in the clauses
+    // below.
     ensures flat { WritesFlat (said (map string_bytes words.now)) (D.state depot.old)
         (D.state depot.new) (answer_of result) }
     // After Good of a comparison the pairs of the report, which `make` doesn't write, compose to a

@@ -8,7 +8,6 @@ use Rattle.gds_layout.specs.declared.layout.LayoutFault.{LayoutFault}
 use Rattle.gds_layout.specs.declared.layout.LayoutFault.TheVariants.{Link, NoMemory}
 use Rattle.rule_stages.specs.Stages.{InTurnLaw, stages_of}
 use Rattle.rule_text.specs.Rules.{Rules}
-use Rattle.shapes_file.specs.Read.{FitsStreamLaw}
 use Rattle.staged_layouts.specs.Staged.{StagedAlikeLaw, StagedFitsLaw}
 use Rattle.run_layout.specs.RunLayout.{IsDrawnLayout, IsTooFar, NoRunFaultLaw, OneRunFaultLaw, OneRunLayoutLaw, RunFitsLaw}
 use Rattle.run_layout.proofs.Alike.{none_far, one_far}
@@ -41,5 +40,5 @@ one_fault layouts apart one bytes top r f g (inr h) (inr k) a b =
     ∙ ap (λ (n : List ℕ). Link (CoordinateRange n)) (one_far r x.drawn y.drawn (drawn_alike layouts bytes top r x.drawn y.drawn x.is y.is) h.0 k.0 x.far y.far)
     ∙ sym k.1
 
-pub fits : FitsStreamLaw → StagedFitsLaw → RunFitsLaw
-fits read law bytes top r l x = law (stages_of r) x.drawn l (read bytes top x.drawn x.is.read) x.staged
+pub fits : StagedFitsLaw → RunFitsLaw
+fits law bytes top r l x drawn = law (stages_of r) x.drawn l drawn x.staged

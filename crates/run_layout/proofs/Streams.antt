@@ -1,9 +1,9 @@
--- No cell of a layout that was read has a layer on the key of a selection: a stream's layers have numbers of 16 bits.
-use Rattle.std.proofs.Common.{◌≡◌, ◌⊎◌, inl, inr, ℕ, zero, suc, ◌+◌, ◌*◌, ◌<◌, ◌^◌, Bool, true, false, ◌==◌, List, [], ◌∷◌, ◌++◌, map, length, slice_get, slice_index, Option, Some, None, cond, sym, ap, subst, arith}
+-- All layers of a layout that was read are ones that a stream may have: their numbers have 16 bits.
+use Rattle.std.proofs.Common.{◌≡◌, ◌⊎◌, inl, inr, ℕ, zero, suc, ◌+◌, ◌*◌, ◌<◌, ◌^◌, Bool, true, false, ◌==◌, ◌||◌, List, [], ◌∷◌, ◌++◌, map, length, slice_get, slice_index, Option, Some, None, cond, sym, ap, subst, arith}
 use Rattle.std.specs.List.{AllByRecursion, list_any}
 use Rattle.std.proofs.lemmas.Option.{slice_get_within}
 use Rattle.base_laws.proofs.Items.{item_at}
-use Rattle.geo_base.specs.Layers.{is_same_key}
+use Rattle.geo_base.specs.Layers.{IsStreamKey, is_same_key}
 use Rattle.geo_base.specs.declared.layer.LayerKey.{LayerKey}
 use Rattle.plain_netlist.specs.Lists.{IsListed}
 use Rattle.cell_graph.specs.Linked.{cell_at, layer_keys}
@@ -11,31 +11,26 @@ use Rattle.cell_graph.specs.declared.cells.CellPart.{CellPart}
 use Rattle.cell_graph.specs.declared.cells.OwnLayer.{OwnLayer}
 use Rattle.cell_graph.specs.declared.drafts.CellDraft.{CellDraft}
 use Rattle.gds_records.specs.Records.{IsBytes, NoRecords, Records, ◌▸◌}
-use Rattle.gds_records.specs.Kinds.{BGNEXTN, BGNSTR, BOUNDARY, BOX, ENDEL, ENDEXTN, ENDSTR, LAYER, PATH, PATHTYPE, STRNAME, WIDTH}
+use Rattle.gds_records.specs.Kinds.{BGNEXTN, BGNSTR, BOUNDARY, BOX, BOXTYPE, DATATYPE, ENDEL, ENDEXTN, ENDSTR, LAYER, PATH, PATHTYPE, STRNAME, TEXTTYPE, WIDTH}
 use Rattle.gds_elements.specs.Bounds.{is_bound}
 use Rattle.gds_elements.specs.Data.{exactly, is_empty, long, number, trimmed}
 use Rattle.gds_elements.specs.Faults.{Passes}
-use Rattle.gds_elements.specs.Meaning.{Boundary, Cell, Form, Library, Shape, box_form, cell_part, cells_of, found, is_cell_bound, key_of, open_cells, open_points, open_shapes, opened, part, path_form, refs_of, shapes_of, texts_of}
+use Rattle.gds_elements.specs.Meaning.{Boundary, Cell, Form, Library, Shape, box_form, cell_part, cells_of, found, is_cell_bound, key_of, open_cells, open_points, open_shapes, opened, part, path_form, refs_of, shapes_of, texts_of, type_part}
 use Rattle.gds_layout.specs.Drafts.{AreDraftsOf}
 use Rattle.gds_layout.specs.Layouts.{IsRead}
 use Rattle.gds_layout.specs.Shapes.{keys_behind, with_key}
 use Rattle.gds_layout.specs.declared.layout.Layout.{Layout}
-use Rattle.rule_stages.specs.Depths.{deepest}
-use Rattle.rule_stages.specs.Stages.{from_depth, stage_of, stages_of}
-use Rattle.rule_text.specs.Rules.{Rules}
-use Rattle.rule_text.specs.declared.rules.SelectRule.{SelectRule}
-use Rattle.select_laws.specs.Staged.{IsKeyOf}
 
 -- ---- numbers of two bytes
 
 found_bytes : (wanted bound : ℕ → Bool) (rs : Records) → Passes rs → IsBytes (found wanted bound rs)
 found_bytes wanted bound NoRecords h = λ i. omega arith
-found_bytes wanted bound (before ▸ r) h = by (wanted r.kind) (bound r.kind)
+found_bytes wanted bound (before ▸ r) h = by (wanted r.kind) (bound r.kind) (found_bytes wanted bound before h.0)
   where
-    by : (a b : Bool) → IsBytes (cond a r.body (cond b [] (found wanted bound before)))
-    by true b = h.1.bytes
-    by false true = λ i. omega arith
-    by false false = found_bytes wanted bound before h.0
+    by : (a b : Bool) → IsBytes (found wanted bound before) → IsBytes (cond a r.body (cond b [] (found wanted bound before)))
+    by true b rest = h.1.bytes
+    by false true rest = λ i. omega arith
+    by false false rest = rest
 
 two_bytes : (bytes : List ℕ) → IsBytes bytes → number bytes < 2 ^ 16
 two_bytes bytes h = by (length bytes == 2)
@@ -47,14 +42,17 @@ two_bytes bytes h = by (length bytes == 2)
 -- ---- shapes of a stream
 
 abbrev IsShort : Shape → Type 0
-IsShort s = s.key.layer < 2 ^ 16
+IsShort s = IsStreamKey s.key
 
 shorts_on : (xs ys : List Shape) → AllByRecursion IsShort xs → AllByRecursion IsShort ys → AllByRecursion IsShort (xs ++ ys)
 shorts_on [] ys f g = g
 shorts_on (x ∷ xs) ys f g = (f.0, shorts_on xs ys f.1 g)
 
-key_short : (rs : Records) → Passes rs → (key_of rs).layer < 2 ^ 16
-key_short rs h = two_bytes (found (λ k. k == LAYER) is_bound rs) (found_bytes (λ k. k == LAYER) is_bound rs h)
+key_short : (rs : Records) → Passes rs → IsStreamKey (key_of rs)
+key_short rs h = record {
+  layer = two_bytes (part LAYER rs) (found_bytes (λ k. k == LAYER) is_bound rs h);
+  datatype = two_bytes (type_part rs) (found_bytes (λ k. k == DATATYPE || k == TEXTTYPE || k == BOXTYPE) is_bound rs h);
+}
 
 open_short : (rs : Records) → Passes rs → AllByRecursion IsShort (open_shapes rs)
 open_short rs h = by (opened rs == BOUNDARY) (opened rs == PATH) (opened rs == BOX)
@@ -75,12 +73,12 @@ open_short rs h = by (opened rs == BOUNDARY) (opened rs == PATH) (opened rs == B
 
 shapes_short : (rs : Records) → Passes rs → AllByRecursion IsShort (shapes_of rs)
 shapes_short NoRecords h = tt
-shapes_short (before ▸ r) h = by (is_cell_bound r.kind) (r.kind == ENDEL)
+shapes_short (before ▸ r) h = by (is_cell_bound r.kind) (r.kind == ENDEL) (shapes_short before h.0)
   where
-    by : (a b : Bool) → AllByRecursion IsShort (cond a [] (cond b (shapes_of before ++ open_shapes before) (shapes_of before)))
-    by true b = tt
-    by false true = shorts_on (shapes_of before) (open_shapes before) (shapes_short before h.0) (open_short before h.0)
-    by false false = shapes_short before h.0
+    by : (a b : Bool) → AllByRecursion IsShort (shapes_of before) → AllByRecursion IsShort (cond a [] (cond b (shapes_of before ++ open_shapes before) (shapes_of before)))
+    by true b rest = tt
+    by false true rest = shorts_on (shapes_of before) (open_shapes before) rest (open_short before h.0)
+    by false false rest = rest
 
 -- ---- structures of a stream
 
@@ -103,11 +101,11 @@ open_cell_short rs h = by (is_empty (trimmed (cell_part STRNAME rs)))
 
 cells_short : (rs : Records) → Passes rs → AllByRecursion AreShort (cells_of rs)
 cells_short NoRecords h = tt
-cells_short (before ▸ r) h = by (r.kind == ENDSTR)
+cells_short (before ▸ r) h = by (r.kind == ENDSTR) (cells_short before h.0)
   where
-    by : (b : Bool) → AllByRecursion AreShort (cond b (cells_of before ++ open_cells before) (cells_of before))
-    by true = cells_on (cells_of before) (open_cells before) (cells_short before h.0) (open_cell_short before h.0)
-    by false = cells_short before h.0
+    by : (b : Bool) → AllByRecursion AreShort (cells_of before) → AllByRecursion AreShort (cond b (cells_of before ++ open_cells before) (cells_of before))
+    by true rest = cells_on (cells_of before) (open_cells before) rest (open_cell_short before h.0)
+    by false rest = rest
 
 -- ---- the layers of a cell
 
@@ -124,13 +122,13 @@ with_short keys key k = by (list_any (is_same_key key) keys)
     by true h = inl h
     by false h = pushed keys h
 
-behind_short : (shapes : List Shape) (keys : List LayerKey) → AllByRecursion IsShort shapes → ((k : LayerKey) → IsListed k keys → k.layer < 2 ^ 16) → (k : LayerKey) → IsListed k (keys_behind keys shapes) → k.layer < 2 ^ 16
+behind_short : (shapes : List Shape) (keys : List LayerKey) → AllByRecursion IsShort shapes → ((k : LayerKey) → IsListed k keys → IsStreamKey k) → (k : LayerKey) → IsListed k (keys_behind keys shapes) → IsStreamKey k
 behind_short [] keys all short k h = short k h
 behind_short (s ∷ shapes) keys all short k h =
     behind_short shapes (with_key keys s.key) all.1
-    (λ j g. elim (with_short keys s.key j g) [ inl old ↦ short j old | inr same ↦ subst (λ (x : LayerKey). x.layer < 2 ^ 16) (sym same) all.0 ]) k h
+    (λ j g. elim (with_short keys s.key j g) [ inl old ↦ short j old | inr same ↦ subst (λ (x : LayerKey). IsStreamKey x) (sym same) all.0 ]) k h
 
-draft_short : (cells : List Cell) (ds : List CellDraft) (i : ℕ) (d : CellDraft) → AllByRecursion AreShort cells → AreDraftsOf cells ds → slice_get ds i ≡ Some d → (k : LayerKey) → IsListed k (layer_keys d.layers.items) → k.layer < 2 ^ 16
+draft_short : (cells : List Cell) (ds : List CellDraft) (i : ℕ) (d : CellDraft) → AllByRecursion AreShort cells → AreDraftsOf cells ds → slice_get ds i ≡ Some d → (k : LayerKey) → IsListed k (layer_keys d.layers.items) → IsStreamKey k
 draft_short [] [] i d all h e k l = absurd (let f : None ≡ Some d = e in let z : ⊥ = cc in z)
 draft_short (c ∷ cells) [] i d all h e k l = absurd h
 draft_short [] (x ∷ ds) i d all h e k l = absurd h
@@ -141,7 +139,7 @@ draft_short (c ∷ cells) (x ∷ ds) zero d all h e k l =
 draft_short (c ∷ cells) (x ∷ ds) (suc i) d all h e k l = draft_short cells ds i d all.1 h.1 e k l
 
 -- of each cell that was read
-stream_keys : (bytes : List ℕ) (top : Option (List ℕ)) (l : Layout) → IsRead bytes top l → (i : ℕ) (c : CellPart) → cell_at l.design i ≡ Some c → (k : LayerKey) → IsListed k (layer_keys c.layers.items) → k.layer < 2 ^ 16
+pub stream_keys : (bytes : List ℕ) (top : Option (List ℕ)) (l : Layout) → IsRead bytes top l → (i : ℕ) (c : CellPart) → cell_at l.design i ≡ Some c → (k : LayerKey) → IsListed k (layer_keys c.layers.items) → IsStreamKey k
 stream_keys bytes top l h i c at k listed =
     let of = h.layout in
     let within = slice_get_within l.design.cells i c at in
@@ -150,16 +148,3 @@ stream_keys bytes top l h i c at k listed =
     let passes = h.accepted.2.passes in
     let all = subst (λ (v : Library). AllByRecursion AreShort v.cells) h.accepted.4 (cells_short h.accepted.0 passes) in
     draft_short h.library.cells of.drafts i draft.0 all of.drafted draft.1 k (subst (λ (ls : List OwnLayer). IsListed k (layer_keys ls)) part.layers listed)
-
--- ---- the keys of selections
-
-stage_key : (r : Rules) (ss : List SelectRule) (key : LayerKey) → IsKeyOf (map (stage_of r) ss) key → key.layer ≡ 65536
-stage_key r [] key h = absurd h
-stage_key r (s ∷ ss) key (inl e) = ap (λ (k : LayerKey). k.layer) (sym e)
-stage_key r (s ∷ ss) key (inr h) = stage_key r ss key h
-
-pub unused : (bytes : List ℕ) (top : Option (List ℕ)) (r : Rules) (l : Layout) → IsRead bytes top l → (i : ℕ) (c : CellPart) (key : LayerKey) → cell_at l.design i ≡ Some c → IsKeyOf (stages_of r) key → IsListed key (layer_keys c.layers.items) → ⊥
-unused bytes top r l h i c key at is listed =
-    let short = stream_keys bytes top l h i c at key listed in
-    let large = stage_key r (from_depth r 1 (deepest r)) key is in
-    omega (arith, short, large)

@@ -58,7 +58,7 @@ abbrev pub OneRunFaultLaw : Type 0
 OneRunFaultLaw = (bytes : List ℕ) (top : Option (List ℕ)) (r : Rules) (f g : LayoutFault)
     → IsRunFault bytes top r f → IsRunFault bytes top r g → f ≢ NoMemory → g ≢ NoMemory → f ≡ g
 
--- it fits a stream
+-- it fits a stream as what was drawn does
 abbrev pub RunFitsLaw : Type 0
 RunFitsLaw = (bytes : List ℕ) (top : Option (List ℕ)) (r : Rules) (l : Layout)
-    → IsRunLayout bytes top r l → FitsStream l
+    → (x : IsRunLayout bytes top r l) → FitsStream x.drawn → FitsStream l

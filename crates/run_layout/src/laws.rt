@@ -5,11 +5,10 @@ ghost use Rattle.run_layout.specs.RunLayout.{RunFitsLaw};
 
 use gds_layout::one_layout;
 use rule_stages::stages;
-use shapes_file::writable;
 use staged_layouts::staged;
 
 /// The layout on which a run works is one, or there is one fault, want of memory apart; it fits a
-/// stream.
+/// stream as what was drawn does.
 pub fn run_layouts()
     ensures layout { OneRunLayoutLaw }
     ensures apart { NoRunFaultLaw }
@@ -17,7 +16,6 @@ pub fn run_layouts()
     ensures fits { RunFitsLaw }
 {
     one_layout();
-    writable();
     stages();
     staged();
 }

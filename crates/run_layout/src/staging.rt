@@ -13,7 +13,7 @@ use gds_layout::{Layout, LayoutFault};
 use job_board::{Crew, Gate};
 use rule_stages::stages;
 use rule_text::RuleSet;
-use select_flow::staged_design;
+use select_flow::staged as staged_design;
 use staged_layouts::staged;
 use std::alloc::Global;
 use std::sync::Wait;

@@ -6,7 +6,7 @@ use Rattle.lvs_outside.specs.Files.{AreApart}
 use Rattle.lvs_run.specs.declared.words.Outputs.{Outputs as Code}
 use Rattle.lvs_run.specs.Words.{Outputs, blank_files, outputs_of, paths_of, schematic_path}
 use Rattle.lvs_run.specs.Inputs.{IsOutput}
-use Rattle.lvs_run.proofs.Ready.{beside_as, reads_files, reads_none, ready_alone, ready_beside}
+use Rattle.lvs_run.proofs.Ready.{beside_as, reads_files, reads_none, ready_alone, ready_beside, run_fits}
 use Rattle.lvs_run.proofs.Stopping.{alone_stop, same_stop, rules_stop, layout_stop, quiet_on, schematic_stop}
 use Rattle.lvs_run.proofs.run.prepare_task.Goals as goal
 
@@ -37,7 +37,7 @@ returns-in_err-output-in-Layout-clause-stops g c =
 pub output_of-requires-clause-layout : goal.output_of-requires-clause-layout
 output_of-requires-clause-layout g c κs within =
     let found = c.in_ok-design.ensures.found in
-    let fits = c.run_layouts.ensures.fits found.bytes _ (rules_seen c.in_ok-rule_set.rule_set) c.in_ok-design.design found.is in fits.room
+    let fits = run_fits c.writable.ensures c.run_layouts.ensures.fits found.bytes _ (rules_seen c.in_ok-rule_set.rule_set) c.in_ok-design.design found.is in fits.room
 
 pub output_of-requires-clause-apart : goal.output_of-requires-clause-apart
 output_of-requires-clause-apart g c κs within =
@@ -47,7 +47,7 @@ output_of-requires-clause-apart g c κs within =
 pub compare-requires-clause-layout : goal.compare-requires-clause-layout
 compare-requires-clause-layout g c κs within =
     let found = c.in_ok-design.ensures.found in
-    let fits = c.run_layouts.ensures.fits found.bytes _ (rules_seen c.in_ok-rule_set.rule_set) c.in_ok-design.design found.is in fits.room
+    let fits = run_fits c.writable.ensures c.run_layouts.ensures.fits found.bytes _ (rules_seen c.in_ok-rule_set.rule_set) c.in_ok-design.design found.is in fits.room
 
 pub compare-requires-clause-apart : goal.compare-requires-clause-apart
 compare-requires-clause-apart g c κs within =
@@ -65,7 +65,7 @@ returns-in-Layout-clause-ready g c =
     let made = subst (λ (o : Outputs). IsOutput o l r c.in_ok-output-in-Layout.output) (sym same) c.in_ok-output-in-Layout.ensures.made in
     let first = c.in_ok-rule_set.ensures in
     let then = c.in_ok-design.ensures in
-    ready_alone p _ _ _ r l c.in_ok-output-in-Layout.output apart (reads_files c.args.task.outputs) first.quiet first.found first.sound then.found c.run_layouts.ensures.fits c.covers_flat.ensures c.flat_netlist.ensures made
+    ready_alone p _ _ _ r l c.in_ok-output-in-Layout.output apart (reads_files c.args.task.outputs) first.quiet first.found first.sound then.found (run_fits c.writable.ensures c.run_layouts.ensures.fits) c.covers_flat.ensures c.flat_netlist.ensures made
 
 pub returns-clause-ready : goal.returns-clause-ready
 returns-clause-ready g c =
@@ -79,7 +79,7 @@ returns-clause-ready g c =
     let made = beside_as (outputs_of c.args.task.outputs) _ same c.in_ok-made-in-Report.ensures.made in
     let first = c.in_ok-rule_set.ensures in
     let then = c.in_ok-design.ensures in
-    ready_beside p _ _ _ _ r l path c.in_ok-made-in-Report.made apart (reads_files c.args.task.outputs) beside first.quiet then.quiet first.found first.sound then.found c.run_layouts.ensures.fits c.covers_flat.ensures c.flat_netlist.ensures c.compared_laws.ensures.verdicts c.compared_laws.ensures.matched made
+    ready_beside p _ _ _ _ r l path c.in_ok-made-in-Report.made apart (reads_files c.args.task.outputs) beside first.quiet then.quiet first.found first.sound then.found (run_fits c.writable.ensures c.run_layouts.ensures.fits) c.covers_flat.ensures c.flat_netlist.ensures c.compared_laws.ensures.verdicts c.compared_laws.ensures.matched made
 
 pub returns-in_err-made-in-Report-clause-stops : goal.returns-in_err-made-in-Report-clause-stops
 returns-in_err-made-in-Report-clause-stops g c =

@@ -6,5 +6,5 @@ returns c = record {
   layout = one_run c.one_layout.ensures.layout c.stages.ensures.turn c.staged.ensures.alike;
   apart = no_fault c.one_layout.ensures.layout c.one_layout.ensures.apart;
   fault = one_fault c.one_layout.ensures.layout c.one_layout.ensures.apart c.one_layout.ensures.fault;
-  fits = fits c.writable.ensures c.staged.ensures.fits;
+  fits = fits c.staged.ensures.fits;
 }
