@@ -12,7 +12,8 @@ ghost use Rattle.rule_stages.specs.Stages.{AreSelectsOf, at_depth};
 ghost use Rattle.rule_text.specs.Seen.{rules_seen};
 ghost use Rattle.rule_text.specs.Sound.{IsSound};
 ghost use Rattle.rule_text.specs.declared.rules.SelectRule.{SelectRule};
-ghost use Rattle.select_flow.specs.Sets.{AreChosenTo, chosen_of, chosen_sets};
+ghost use Rattle.depth_designs.specs.Chosen.{AreChosenTo};
+ghost use Rattle.select_flow.specs.Sets.{chosen_of, chosen_sets};
 
 use cell_graph::Design;
 use deep_flow::{find_layers, find_zones};

@@ -34,8 +34,8 @@ use Rattle.select_laws.specs.Whole.{ArePartedRegions}
 use Rattle.select_laws.specs.Staged.{Stage, Reads as StageReads}
 use Rattle.staged_designs.specs.Depths.{AreFree, stage_keys}
 use Rattle.staged_layouts.specs.Staged.{AreFresh}
-use Rattle.select_flow.specs.Sets.{AreChosen, AreChosenTo}
-use Rattle.select_flow.specs.Stages.{AreUnused, stages_by}
+use Rattle.depth_designs.specs.Chosen.{AreChosen, AreChosenTo}
+use Rattle.depth_designs.specs.Stages.{AreUnused, stages_by}
 
 -- reached or not
 

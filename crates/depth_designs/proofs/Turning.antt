@@ -27,7 +27,7 @@ use Rattle.select_laws.specs.Layered.{IsLayered, IsSameElse}
 use Rattle.select_laws.specs.Staged.{AreInTurn, IsKeyOf, IsStaged, Stage}
 use Rattle.staged_designs.specs.Depths.{stage_keys}
 use Rattle.staged_layouts.specs.Staged.{IsStagedCell, IsStagedDesign, StagedOnLaw}
-use Rattle.select_flow.specs.Stages.{AreDrawn, AreUnused, IsDepthFault, IsFarBy, IsFarStage, IsStageFault, stages_by}
+use Rattle.depth_designs.specs.Stages.{AreDrawn, AreUnused, IsDepthFault, IsFarBy, IsFarStage, IsStageFault, stages_by}
 
 -- no selections
 
