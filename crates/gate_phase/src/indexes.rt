@@ -4,6 +4,7 @@ ghost use Rattle.std.specs.Prelude.{IfOk, IfSome, IsSome};
 ghost use Rattle.geo_base.specs.declared.shapes.Rect.{Rect};
 ghost use Rattle.cell_graph.specs.Linked.{plain};
 ghost use Rattle.flat_layout.specs.Layout.{IsReached};
+ghost use Rattle.rule_text.specs.Rules.{Rules};
 ghost use Rattle.rule_text.specs.Seen.{rules_seen};
 ghost use Rattle.deep_tables.specs.Layers.{AreLayers, layer_of};
 ghost use Rattle.rule_text.specs.Reaches.{reaches};
@@ -14,7 +15,7 @@ ghost use Rattle.gate_phase.specs.Indexes.{index_in, index_lists};
 
 use crate::device::{Device, Region};
 use crate::met::{found_rects, met_rects};
-use crate::reads::device_names;
+use crate::reads::{device_names, marked_names};
 use cell_graph::Design;
 use deep_tables::{Layers, index_of};
 use geo_base::Rect;
@@ -93,22 +94,22 @@ fn no_indexes(alloc: Global, cells: u32) -> Result<Vec<Vec<Option<TileIndex>>>, 
     Ok(indexes)
 }
 
-// The indexes of what each reached cell holds itself of the names of device rules.
+// The indexes of what each reached cell holds itself of the marked names.
 fn all_indexes(
     alloc: Global,
     design: &Design,
-    rules: &RuleSet,
     layers: &Layers,
+    marks: &[bool],
 ) -> Result<Vec<Vec<Option<TileIndex>>>, AllocError>
-    requires few { length rules.now.names.items < 2 ^ 32 }
-    requires layers { AreLayers (plain design.now) (rules_seen rules.now) layers.now }
+    requires few { length marks.now < 2 ^ 32 }
+    requires layers { (r : Rules) × AreLayers (plain design.now) r layers.now
+        × (length marks.now ≡ length r.names) }
     ensures { IfOk result (λ v. AreAllIndexes layers.now (index_lists v.items)) }
 {
     design.sound();
-    let marks = device_names(alloc, rules)?;
     let mut indexes = no_indexes(alloc, design.cells())?;
     for cell in design.order() {
-        let found = cell_indexes(alloc, layers, &marks, *cell)?;
+        let found = cell_indexes(alloc, layers, marks, *cell)?;
         indexes[*cell as usize] = found;
     }
     Ok(indexes)
@@ -147,8 +148,35 @@ impl<'a> IndexedLayers<'a> {
         ensures table { IfOk result (λ x. x.table ≡ layers.now) }
         ensures reaches { IfOk result (λ x. x.reaches ≡ reaches rules.now.names.items) }
     {
-        let indexes = all_indexes(alloc, design, rules, layers)?;
-        let reaches = reaches(alloc, &rules.names)?;
+        let marks = device_names(alloc, rules)?;
+        let indexes = all_indexes(alloc, design, layers, &marks)?;
+        let names = rules.names.as_slice();
+        let reaches = reaches(alloc, names)?;
+        Ok(IndexedLayers {
+            layers,
+            indexes,
+            reaches,
+        })
+    }
+
+    /// The same with indexes of these names in place of the layers of device rules.
+    pub fn of_names(
+        alloc: Global,
+        design: &Design,
+        rules: &RuleSet,
+        layers: &'a Layers,
+        indexed: &[u32],
+    ) -> Result<IndexedLayers<'a>, AllocError>
+        requires few { length rules.now.names.items < 2 ^ 32 }
+        requires rules { IsSound (rules_seen rules.now) }
+        requires layers { AreLayers (plain design.now) (rules_seen rules.now) layers.now }
+        ensures table { IfOk result (λ x. x.table ≡ layers.now) }
+        ensures reaches { IfOk result (λ x. x.reaches ≡ reaches rules.now.names.items) }
+    {
+        let names = rules.names.as_slice();
+        let marks = marked_names(alloc, names.len(), indexed)?;
+        let indexes = all_indexes(alloc, design, layers, &marks)?;
+        let reaches = reaches(alloc, names)?;
         Ok(IndexedLayers {
             layers,
             indexes,

@@ -84,6 +84,17 @@ pub fn device_names(alloc: Global, rules: &RuleSet) -> Result<Vec<bool>, AllocEr
     Ok(marks)
 }
 
+/// A mark for each of so many names, set for those of a list. Linear.
+pub fn marked_names(alloc: Global, count: usize, names: &[u32]) -> Result<Vec<bool>, AllocError>
+    ensures { IfOk result (λ v. length v.items ≡ count) }
+{
+    let mut marks = vec![in alloc; false; count]?;
+    for name in names {
+        mark_before(&mut marks, *name, count);
+    }
+    Ok(marks)
+}
+
 /// Which names of the rules the layers of a device rule read, themselves among them. Linear in the
 /// names.
 pub fn names_read(

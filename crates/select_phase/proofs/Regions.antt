@@ -1,10 +1,11 @@
 -- Parts of the candidates: regions of the cell's own, or squares that go up.
-use Rattle.std.proofs.Common.{◌≡◌, ◌⊎◌, ◌↔◌, inl, inr, ℕ, List}
+use Rattle.std.proofs.Common.{◌↔◌, ℕ, List}
 use Rattle.flat_layout.specs.Gates.{Geometry}
-use Rattle.flat_layout.specs.Layers.{InFlat, IsKept, IsCalmAt}
+use Rattle.flat_layout.specs.Layers.{InFlat, IsKept}
 use Rattle.flat_layout.specs.Layout.{Design, IsReached}
 use Rattle.flat_layout.specs.Parts.{Joint, InRegion, IsCloseTo}
 use Rattle.flat_laws.proofs.Joints.{region_has, region_between, region_on}
+use Rattle.flat_laws.proofs.Leaving.{calm_unstirred}
 use Rattle.flat_laws.proofs.Terminals.{keep}
 use Rattle.geo_base.specs.declared.shapes.Rect.{Rect}
 use Rattle.geo_base.specs.declared.shapes.Square.{Square}
@@ -12,12 +13,13 @@ use Rattle.gate_search.specs.Gather.{AreMet}
 use Rattle.gate_shapes.specs.Sets.{in_set}
 use Rattle.select_laws.specs.Layered.{IsOwnSelected}
 use Rattle.select_laws.specs.Rest.{IsRest, IsCandidate, ArePartedSquares}
-use Rattle.select_laws.specs.Selects.{Ask, Interacting, Overlapping, Inside, Outside, WithArea, Has, OnSide, Select, sight, region_at, IsSelected}
-use Rattle.select_laws.specs.Whole.{IsWhole, RegionAt}
+use Rattle.select_laws.specs.Selects.{Ask, Interacting, Overlapping, Inside, Outside, WithArea, Has, OnSide, Select, sight, region_at}
+use Rattle.select_laws.specs.Whole.{IsWhole}
 use Rattle.select_laws.proofs.Choice.{reads_region, reads_other, on_side}
 use Rattle.select_laws.proofs.Rest.{candidate_law, kept_flat, rest_law}
 use Rattle.select_laws.proofs.Staged.{close_same, has_same}
 use Rattle.select_phase.specs.Beside.{IfOther, IsBeside}
+use Rattle.select_phase.specs.Sorted.{IsCalmPart}
 
 module _ (d : Design) (x : Select) (cell : ℕ) (reached : IsReached d cell) (parted : ArePartedSquares d (sight x) cell) where
   abbrev j : Joint
@@ -33,9 +35,8 @@ module _ (d : Design) (x : Select) (cell : ℕ) (reached : IsReached d cell) (pa
     abbrev P : Square → Type 0
     P = in_set part
 
-    -- nothing is disturbed close to the part
-    abbrev IsCalmPart : Type 0
-    IsCalmPart = (q : Square) → IsCloseTo P q → IsCalmAt d g.keys g.reach cell q
+    abbrev IsCalm : Type 0
+    IsCalm = IsCalmPart d x cell part
 
     pub candidate : (q : Square) → P q → C q
     candidate q e = region_has j C s q ((same q).0 e)
@@ -50,22 +51,22 @@ module _ (d : Design) (x : Select) (cell : ℕ) (reached : IsReached d cell) (pa
     back : (q : Square) → P q → (z : Square) → InRegion j C q z ↔ P z
     back q e z = let r = same_at q e z in (r.1, r.0)
 
-    pub whole_at : (q : Square) → P q → IsCalmPart → IsWhole d j g cell q
+    pub whole_at : (q : Square) → P q → IsCalm → IsWhole d j g cell q
     whole_at q e calm = (candidate_law d j g cell (reads_region x) reached parted q (candidate q e)).0.0 (λ z c. calm z (close_same (InRegion j C q) P (back q e) z c))
 
-    pub calm_of : (q : Square) → P q → IsWhole d j g cell q → IsCalmPart
+    pub calm_of : (q : Square) → P q → IsWhole d j g cell q → IsCalm
     calm_of q e whole = λ z c. (candidate_law d j g cell (reads_region x) reached parted q (candidate q e)).0.1 whole z (close_same P (InRegion j C q) (same_at q e) z c)
 
     -- a part that isn't calm goes up
-    pub torn_at : (q : Square) → P q → (IsCalmPart → ⊥) → IsRest d j g cell q
+    pub torn_at : (q : Square) → P q → (IsCalm → ⊥) → IsRest d j g cell q
     torn_at q e stirred = (rest_law d j g cell (reads_region x) reached parted q).torn (candidate q e) (λ w. stirred (calm_of q e w))
 
-    module _ (calm : IsCalmPart) (close near : List Rect) (all : (q : Square) → in_set close q ↔ IsCloseTo P q) where
+    module _ (calm : IsCalm) (close near : List Rect) (all : (q : Square) → in_set close q ↔ IsCloseTo P q) where
       -- close to the part what is kept of the other name is all of it
       near_is : AreMet (IsKept d cell x.other) close near → (z : Square) → IsCloseTo P z → in_set near z ↔ InFlat d cell x.other z
       near_is met z c = (
         (λ e. kept_flat d cell x.other z (met.sound z e)),
-        (λ f. met.complete z (keep d g cell x.other z (reads_other x) (calm z c) f) ((all z).1 c)),
+        (λ f. met.complete z (keep d g cell x.other z (reads_other x) (calm_unstirred d g.keys g.reach cell z (calm z c)) f) ((all z).1 c)),
       )
 
       region_is : (q : Square) → P q → (z : Square) → P z ↔ region_at d x cell q z

@@ -1,29 +1,42 @@
 -- The parts of the candidates, sorted one by one, are what the cell finds.
-use Rattle.std.proofs.Common.{◌≡◌, ◌⊎◌, ◌↔◌, inl, inr, ℕ, ◌+◌, ◌<◌, true, List, [], Option, Some, length, slice_get, sym, ◌∙◌, ap, subst, arith}
+use Rattle.std.proofs.Common.{◌≡◌, ◌⊎◌, ◌↔◌, inl, inr, ℕ, ◌+◌, ◌<◌, ◌≤◌, true, List, [], Option, Some, length, slice_get, sym, ◌∙◌, subst, arith}
 use Rattle.std.proofs.Math.Decide.{ℕ_discrete}
 use Rattle.std.proofs.lemmas.Bool.{false≢true}
 use Rattle.std.proofs.lemmas.Option.{slice_get_within}
 use Rattle.base_laws.proofs.Items.{one_entry}
-use Rattle.flat_layout.specs.Gates.{Geometry}
 use Rattle.flat_layout.specs.Layers.{IsDecided}
-use Rattle.flat_layout.specs.Layout.{Design, Place, IsPlaced, IsReached}
-use Rattle.flat_layout.specs.Parts.{Joint}
+use Rattle.flat_layout.specs.Layout.{Design, IsReached}
 use Rattle.geo_base.specs.declared.shapes.Rect.{Rect}
 use Rattle.geo_base.specs.declared.shapes.Square.{Square}
 use Rattle.rect_sets.specs.Rects.{covers}
 use Rattle.gate_shapes.specs.PartLists.{AreRegions}
 use Rattle.gate_shapes.specs.Sets.{in_set}
 use Rattle.select_laws.specs.Layered.{IsOwnSelected}
-use Rattle.select_laws.specs.Rest.{IsCandidate, IsRest, ArePartedSquares, AreTold}
+use Rattle.select_laws.specs.Rest.{IsCandidate, IsRest, ArePartedSquares}
 use Rattle.select_laws.specs.Selects.{Select, sight}
 use Rattle.select_laws.specs.Whole.{IsWhole}
 use Rattle.select_laws.proofs.Choice.{reads_region}
 use Rattle.select_laws.proofs.Rest.{rest_law, told_law}
 use Rattle.select_laws.proofs.Staged.{region_same}
 use Rattle.select_phase.specs.Found.{AreFoundBelow, IsCellSelection}
-use Rattle.select_phase.specs.Sorted.{AreSortedTo, HaveRects, IsInFirst, IsPartAt, SortsPart}
+use Rattle.select_phase.specs.Sorted.{HaveRects, IsPartAt, SortsPart}
 use Rattle.select_phase.specs.declared.cell.CellSelection.{CellSelection}
 use Rattle.select_phase.specs.declared.sorting.Sorted.{Sorted}
+
+-- one of the first n parts has the square
+pub record IsInFirst (parts : List (List Rect)) (n : ℕ) (q : Square) : Type 0 where
+  pub at : ℕ
+  pub part : List Rect
+  pub below : at < n
+  pub there : slice_get parts at ≡ Some part
+  pub has : in_set part q
+
+-- the first n parts, sorted
+pub record AreSortedTo (d : Design) (x : Select) (cell : ℕ) (parts : List (List Rect)) (n : ℕ) (sorted : Sorted) : Type 0 where
+  pub rects : HaveRects sorted
+  pub chosen : (q : Square) → in_set sorted.chosen.items q ↔ (IsInFirst parts n q × IsOwnSelected d x cell q)
+  pub rest : (q : Square) → in_set sorted.rest.items q ↔ (IsInFirst parts n q × IsRest d x.joint (sight x) cell q)
+  pub told : (q : Square) → IsInFirst parts n q → IsDecided (IsWhole d x.joint (sight x) cell q)
 
 none_first : (parts : List (List Rect)) (q : Square) → IsInFirst parts 0 q → ⊥
 none_first parts q h = let lt = h.below in omega arith
@@ -42,10 +55,10 @@ more_first parts n part q at = (
 
 module _ (d : Design) (x : Select) (cell : ℕ) (parts : List (List Rect)) where
   pub sorted_none : (sorted : Sorted) → sorted.chosen.items ≡ [] → sorted.rest.items ≡ [] → HaveRects sorted → AreSortedTo d x cell parts 0 sorted
-  sorted_none sorted no none rects = record {
+  sorted_none sorted empty none rects = record {
     rects = rects;
     chosen = λ q. (
-      (λ e. absurd (false≢true (subst (λ (l : List Rect). covers l q ≡ true) no e))),
+      (λ e. absurd (false≢true (subst (λ (l : List Rect). covers l q ≡ true) empty e))),
       (λ h. absurd (none_first parts q h.0)),
     );
     rest = λ q. (
@@ -97,11 +110,12 @@ module _ (d : Design) (x : Select) (cell : ℕ) (all : List Rect) (parts : List 
       )
 
   module _ (reached : IsReached d cell) (parted : ArePartedSquares d (sight x) cell) (found : List (Option CellSelection)) (below : AreFoundBelow d x cell found)
-      (sorted : Sorted) (done : AreSortedTo d x cell parts (length parts) sorted) where
-    in_first : (q : Square) → IsCandidate d x.joint (sight x) cell q → IsInFirst parts (length parts) q
+      (sorted : Sorted) (n : ℕ) (end : length parts ≤ n) (done : AreSortedTo d x cell parts n sorted) where
+    in_first : (q : Square) → IsCandidate d x.joint (sight x) cell q → IsInFirst parts n q
     in_first q c =
         let f = are.found q ((is q).1 c) in
-        record { at = f.0; part = f.1; below = slice_get_within parts f.0 f.1 f.2; there = f.2; has = f.3 }
+        let lt = slice_get_within parts f.0 f.1 f.2 in
+        record { at = f.0; part = f.1; below = omega (arith, end); there = f.2; has = f.3 }
 
     pub cell_found : (v : CellSelection) → ((q : Square) → covers v.chosen q ≡ covers sorted.chosen.items q) → ((q : Square) → covers v.rest q ≡ covers sorted.rest.items q) → IsCellSelection d x cell v
     cell_found v chosen rest =

@@ -3,6 +3,7 @@ use Rattle.std.specs.Prelude.{◌≡◌, ◌↔◌, ℕ, List, [], Option, Some,
 use Rattle.flat_layout.specs.Layout.{Design, Place, IsPlaced}
 use Rattle.geo_base.specs.declared.shapes.Rect.{Rect}
 use Rattle.geo_base.specs.declared.shapes.Square.{Square}
+use Rattle.deep_tables.specs.Entries.{AreEntries}
 use Rattle.gate_shapes.specs.Sets.{in_set}
 use Rattle.select_laws.specs.Layered.{IsOwnSelected}
 use Rattle.select_laws.specs.Rest.{IsRest, AreTold}
@@ -20,6 +21,10 @@ pub record IsCellSelection (d : Design) (x : Select) (cell : ℕ) (v : CellSelec
 abbrev pub AreFoundBelow : Design → Select → ℕ → List (Option CellSelection) → Type 0
 AreFoundBelow d x cell found = (k : ℕ) (p : Place) → IsPlaced d cell k p → (v : CellSelection)
     × (get_or found p.cell None ≡ Some v) × IsCellSelection d x p.cell v
+
+-- and each reached cell has what it finds
+abbrev pub AreFound : Design → Select → List (Option CellSelection) → Type 0
+AreFound d x found = AreEntries d (IsCellSelection d x) found
 
 -- what goes up from a cell, by what was found of it
 abbrev pub rest_of : Option CellSelection → List Rect

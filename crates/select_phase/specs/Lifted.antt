@@ -1,12 +1,12 @@
 -- Squares that go up through the elements of an array.
-use Rattle.std.specs.Prelude.{◌≡◌, ◌⊎◌, ℕ, ◌<◌, List, Some, slice_get}
+use Rattle.std.specs.Prelude.{◌≡◌, ◌⊎◌, ℕ, ◌<◌, true, List}
 use Rattle.cell_graph.specs.declared.cells.Place.{Place}
 use Rattle.cell_graph.specs.Linked.{motion_at}
 use Rattle.geo_base.specs.Motions.{moved_square}
+use Rattle.geo_base.specs.Rects.{has}
 use Rattle.geo_base.specs.declared.shapes.Rect.{Rect}
 use Rattle.geo_base.specs.declared.shapes.Square.{Square}
 use Rattle.gate_shapes.specs.Sets.{in_set}
-use Rattle.gate_phase.specs.Own.{IsUnitNear}
 
 -- an element takes a square of the set to q
 pub record IsLifted (p : Place) (set : List Rect) (q : Square) : Type 0 where
@@ -18,21 +18,12 @@ pub record IsLifted (p : Place) (set : List Rect) (q : Square) : Type 0 where
   pub has : in_set set square
   pub image : moved_square (motion_at p row column) square ≡ q
 
--- all that goes up is near enough for the plane in which designs are worked
-abbrev pub Lands : Place → List Rect → Type 0
-Lands p set = (q : Square) → IsLifted p set q → IsUnitNear q
+-- all that goes up lies in the plane
+abbrev pub Lands : Place → List Rect → Rect → Type 0
+Lands p set plane = (q : Square) → IsLifted p set q → has plane q ≡ true
 
 -- the new squares are the old ones and those
 pub record Lifts (p : Place) (set old new : List Rect) : Type 0 where
   pub each : (q : Square) → in_set new q → in_set old q ⊎ IsLifted p set q
-  pub old : (q : Square) → in_set old q → in_set new q
+  pub kept : (q : Square) → in_set old q → in_set new q
   pub all : (q : Square) → IsLifted p set q → in_set new q
-
--- of the references so far
-pub record IsLiftedFrom (places : List Place) (sets : ℕ → List Rect) (n : ℕ) (q : Square) : Type 0
-  where
-    pub at : ℕ
-    pub place : Place
-    pub below : at < n
-    pub there : slice_get places at ≡ Some place
-    pub lifted : IsLifted place (sets place.cell) q

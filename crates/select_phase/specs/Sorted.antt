@@ -1,9 +1,9 @@
 -- Parts of a cell's candidates, sorted.
-use Rattle.std.specs.Prelude.{◌≡◌, ◌⊎◌, ◌↔◌, ℕ, ◌<◌, List, Some, slice_get}
+use Rattle.std.specs.Prelude.{◌⊎◌, ◌↔◌, ℕ, List}
 use Rattle.std.specs.List.{All}
-use Rattle.flat_layout.specs.Layers.{IsDecided}
+use Rattle.flat_layout.specs.Layers.{IsDecided, IsStirred}
 use Rattle.flat_layout.specs.Layout.{Design}
-use Rattle.flat_layout.specs.Parts.{InRegion}
+use Rattle.flat_layout.specs.Parts.{InRegion, IsCloseTo}
 use Rattle.geo_base.specs.Rects.{IsRect}
 use Rattle.geo_base.specs.declared.shapes.Rect.{Rect}
 use Rattle.geo_base.specs.declared.shapes.Square.{Square}
@@ -19,6 +19,11 @@ abbrev pub IsPartAt : Design → Select → ℕ → List Rect → Square → Typ
 IsPartAt d x cell part s = (q : Square) → in_set part q
     ↔ InRegion x.joint (IsCandidate d x.joint (sight x) cell) s q
 
+-- close to the part nothing is disturbed
+abbrev pub IsCalmPart : Design → Select → ℕ → List Rect → Type 0
+IsCalmPart d x cell part = (q : Square) → IsCloseTo (in_set part) q
+    → IsStirred d (sight x).keys (sight x).reach cell q → ⊥
+
 -- the rectangles that were sorted so far, with those of the part: its squares that are chosen,
 -- those that go up; and of each it is known whether its region is whole
 pub record SortsPart (d : Design) (x : Select) (cell : ℕ) (part : List Rect)
@@ -31,21 +36,3 @@ pub record SortsPart (d : Design) (x : Select) (cell : ℕ) (part : List Rect)
 
 abbrev pub HaveRects : Sorted → Type 0
 HaveRects s = All IsRect s.chosen.items × All IsRect s.rest.items
-
--- one of the first n parts has the square
-pub record IsInFirst (parts : List (List Rect)) (n : ℕ) (q : Square) : Type 0 where
-  pub at : ℕ
-  pub part : List Rect
-  pub below : at < n
-  pub there : slice_get parts at ≡ Some part
-  pub has : in_set part q
-
--- the first n parts, sorted
-pub record AreSortedTo (d : Design) (x : Select) (cell : ℕ) (parts : List (List Rect)) (n : ℕ)
-    (sorted : Sorted) : Type 0 where
-  pub rects : HaveRects sorted
-  pub chosen : (q : Square) → in_set sorted.chosen.items q
-      ↔ (IsInFirst parts n q × IsOwnSelected d x cell q)
-  pub rest : (q : Square) → in_set sorted.rest.items q
-      ↔ (IsInFirst parts n q × IsRest d x.joint (sight x) cell q)
-  pub told : (q : Square) → IsInFirst parts n q → IsDecided (IsWhole d x.joint (sight x) cell q)

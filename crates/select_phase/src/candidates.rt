@@ -1,32 +1,32 @@
 //! A cell's candidates: what it holds itself of the regions' layer, and what goes up to it.
 
-ghost use Rattle.std.specs.Prelude.{◌≡◌, ◌↔◌, ◌<◌, ◌≤◌, ℕ, Some, true, length, slice_get};
+ghost use Rattle.std.specs.Prelude.{◌≡◌, ◌↔◌, ◌<◌, ◌≤◌, ◌^◌, ℕ, Some, true, length, slice_get};
 ghost use Rattle.std.specs.Prelude.{IfOk, OnOk};
-ghost use Rattle.geo_base.specs.Rects.{has};
 ghost use Rattle.std.specs.List.{All};
-ghost use Rattle.geo_base.specs.Near.{IsNearRect};
+ghost use Rattle.geo_base.specs.Rects.{has};
 ghost use Rattle.geo_base.specs.declared.shapes.Square.{Square};
+ghost use Rattle.rect_sets.specs.Near.{IsNearSet};
 ghost use Rattle.cell_context.specs.Arrays.{IsNearArray};
-ghost use Rattle.cell_graph.specs.Grown.{IsInGrown};
-ghost use Rattle.cell_graph.specs.Linked.{IsFrame, cell_at, hull_of, places_at};
-ghost use Rattle.gate_phase.specs.Kept.{IsNearPiece};
-ghost use Rattle.gate_phase.specs.Site.{IsReadySite, layout_at};
+ghost use Rattle.cell_context.specs.Over.{IsPiece};
+ghost use Rattle.cell_graph.specs.Linked.{IsFrame, IsRectWithin, cell_at, places_at};
+ghost use Rattle.flat_layout.specs.Parts.{Corners};
+ghost use Rattle.gate_phase.specs.Kept.{HoldsNear};
+ghost use Rattle.gate_phase.specs.Own.{IsHeldPart};
+ghost use Rattle.gate_phase.specs.Site.{layout_at};
 ghost use Rattle.gate_shapes.specs.Sets.{in_set};
-ghost use Rattle.rule_layers.specs.Formulas.{formulas};
 ghost use Rattle.select_laws.specs.Rest.{IsCandidate};
 ghost use Rattle.select_laws.specs.Selects.{sight};
 ghost use Rattle.select_phase.specs.Found.{AreFoundBelow, rest_in};
 ghost use Rattle.select_phase.specs.Lifted.{Lands, Lifts};
-ghost use Rattle.select_phase.specs.Selections.{IsKnown, select_of};
-ghost use Rattle.flat_layout.specs.Parts.{Corners};
+ghost use Rattle.select_phase.specs.Selections.{IsReadySelection, meant_at};
 
 use crate::cell::CellSelection;
-use crate::selection::Selection;
 use cell_context::{grown, place_visits, push_images};
 use cell_graph::Place;
 use gate_phase::{Site, plane};
 use geo_base::Rect;
 use rect_sets::RectSet;
+use rule_text::SelectRule;
 use std::alloc::{AllocError, Global};
 
 // Adds the images of a placed cell's squares through all elements of an array; where it has none no
@@ -37,23 +37,25 @@ fn push_lifted(
     place: &Place,
     frame: &Rect,
     set: &RectSet,
+    plane: &Rect,
 ) -> Result<(), AllocError>
     requires near { IsNearArray place.now }
     requires some { 0 < place.now.columns }
     requires frame { IsFrame frame.now }
     requires held { (q : Square) → in_set set.now q → has frame.now q ≡ true }
-    requires near_rects { All IsNearRect set.now }
-    requires lands { Lands place.now set.now }
-    requires pieces { All IsNearPiece out.old.items }
+    requires near_set { IsNearSet set.now }
+    requires plane { IsRectWithin (2 ^ 39) plane.now }
+    requires lands { Lands place.now set.now plane.now }
+    requires pieces { All (IsPiece plane.now) out.old.items }
     ensures lifts { OnOk result (Lifts place.now set.now out.old.items out.new.items) }
-    ensures pieces { OnOk result (All IsNearPiece out.new.items) }
+    ensures pieces { OnOk result (All (IsPiece plane.now) out.new.items) }
 {
-    if set.rects().is_empty() {
+    let rects = set.rects();
+    if rects.is_empty() {
         return Ok(());
     }
-    let all = plane();
-    for visit in &place_visits(alloc, place, frame, &all)? {
-        push_images(out, set.rects(), &visit.motion, &all)?;
+    for visit in &place_visits(alloc, place, frame, plane)? {
+        push_images(out, rects, &visit.motion, plane)?;
     }
     Ok(())
 }
@@ -66,24 +68,27 @@ fn push_rest(
     place: &Place,
     below: &[Option<CellSelection>],
     reach: u32,
+    plane: &Rect,
 ) -> Result<(), AllocError>
-    requires ready { IsReadySite site.now }
     requires reach { reach ≤ 10000 }
     requires place { (k : ℕ)
         × (slice_get (places_at (cell_at site.now.design.now site.now.cell)) k ≡ Some place.now) }
     requires count { length below.now ≡ length site.now.design.now.cells }
-    requires held { (q : Square) → in_set (rest_in below.now place.now.cell) q
-        → IsInGrown reach (hull_of (cell_at site.now.design.now place.now.cell)) q }
-    requires pieces { All IsNearPiece out.old.items }
+    requires held { IsHeldPart reach site.now.design.now place.now.cell
+        (rest_in below.now place.now.cell) }
+    requires plane { IsRectWithin (2 ^ 39) plane.now }
+    requires all { HoldsNear plane.now }
+    requires pieces { All (IsPiece plane.now) out.old.items }
     ensures lifts { OnOk result (Lifts place.now (rest_in below.now place.now.cell) out.old.items
         out.new.items) }
-    ensures pieces { OnOk result (All IsNearPiece out.new.items) }
+    ensures pieces { OnOk result (All (IsPiece plane.now) out.new.items) }
 {
+    site.design.sound();
     let Some(found) = &below[place.cell as usize] else {
         return Ok(());
     };
     match site.design.hull(place.cell) {
-        Some(hull) => push_lifted(alloc, out, place, &grown(&hull, reach), &found.rest),
+        Some(hull) => push_lifted(alloc, out, place, &grown(&hull, reach), &found.rest, plane),
         None => Ok(()),
     }
 }
@@ -94,27 +99,24 @@ fn push_rest(
 pub fn candidates(
     alloc: Global,
     site: &Site,
-    selection: &Selection,
+    selection: &SelectRule,
     below: &[Option<CellSelection>],
 ) -> Result<RectSet, AllocError>
-    requires ready { IsReadySite site.now }
-    requires known { IsKnown (formulas site.now.rules.now.names.items) selection.now }
+    requires ready { IsReadySelection site.now selection.now }
     requires count { length below.now ≡ length site.now.design.now.cells }
-    requires below { AreFoundBelow (layout_at site.now)
-        (select_of (formulas site.now.rules.now.names.items) selection.now) site.now.cell
-        below.now }
+    requires below { AreFoundBelow (layout_at site.now) (meant_at site.now selection.now)
+        site.now.cell below.now }
     ensures { IfOk result (λ r. (q : Square) → in_set r q ↔ IsCandidate (layout_at site.now) Corners
-        (sight (select_of (formulas site.now.rules.now.names.items) selection.now)) site.now.cell
-        q) }
+        (sight (meant_at site.now selection.now)) site.now.cell q) }
 {
+    site.design.sound();
     let reach = site.layers.reach(selection.region);
-    let mut out = site
-        .layers
-        .local(site.cell, selection.region)
-        .rects()
-        .to_vec(alloc)?;
+    let plane = plane();
+    let local = site.layers.local(site.cell, selection.region);
+    let mut out = local.rects().to_vec(alloc)?;
     for place in site.design.places(site.cell) {
-        push_rest(alloc, &mut out, site, place, below, reach)?;
+        push_rest(alloc, &mut out, site, place, below, reach, &plane)?;
     }
-    RectSet::canon(alloc, out)
+    let set = RectSet::canon(alloc, out)?;
+    Ok(set)
 }

@@ -1,17 +1,16 @@
 //! What a cell finds of a selection.
 
 ghost use Rattle.std.specs.Prelude.{◌≡◌, length, IfOk};
-ghost use Rattle.gate_phase.specs.Site.{IsReadySite, layout_at};
-ghost use Rattle.rule_layers.specs.Formulas.{formulas};
+ghost use Rattle.gate_phase.specs.Site.{layout_at};
 ghost use Rattle.select_phase.specs.Found.{AreFoundBelow, IsCellSelection};
-ghost use Rattle.select_phase.specs.Selections.{IsKnown, select_of};
+ghost use Rattle.select_phase.specs.Selections.{IsReadySelection, meant_at};
 
 use crate::candidates::candidates;
-use crate::selection::Selection;
 use crate::sorting::{Sorted, sort_part};
 use gate_phase::Site;
 use gate_shapes::corner_parts;
 use rect_sets::RectSet;
+use rule_text::SelectRule;
 use std::alloc::{AllocError, Global};
 
 /// The squares of a cell's own regions that a selection chooses, and those of the regions' layer
@@ -23,32 +22,32 @@ pub struct CellSelection {
 }
 
 /// What a cell finds of a selection, over what its placed cells found: `below` by cells' numbers.
-/// In O(n log n) for n rectangles of the candidates and what lies close to these.
+/// In O(n log n) for n rectangles of the candidates and of what lies close to these, where the
+/// site's layers have an index of the other name.
 pub fn cell_selection(
     alloc: Global,
     site: &Site,
-    selection: &Selection,
+    selection: &SelectRule,
     below: &[Option<CellSelection>],
 ) -> Result<CellSelection, AllocError>
-    requires ready { IsReadySite site.now }
-    requires known { IsKnown (formulas site.now.rules.now.names.items) selection.now }
+    requires ready { IsReadySelection site.now selection.now }
     requires count { length below.now ≡ length site.now.design.now.cells }
-    requires below { AreFoundBelow (layout_at site.now)
-        (select_of (formulas site.now.rules.now.names.items) selection.now) site.now.cell
-        below.now }
-    ensures { IfOk result (IsCellSelection (layout_at site.now)
-        (select_of (formulas site.now.rules.now.names.items) selection.now) site.now.cell) }
+    requires below { AreFoundBelow (layout_at site.now) (meant_at site.now selection.now)
+        site.now.cell below.now }
+    ensures { IfOk result (IsCellSelection (layout_at site.now) (meant_at site.now selection.now)
+        site.now.cell) }
 {
+    site.design.sound();
     let all = candidates(alloc, site, selection, below)?;
+    let parts = corner_parts(alloc, &all)?;
     let mut sorted = Sorted {
         chosen: Vec::new(alloc),
         rest: Vec::new(alloc),
     };
-    for part in &corner_parts(alloc, &all)? {
+    for part in &parts {
         sort_part(alloc, site, selection, part, &mut sorted)?;
     }
-    Ok(CellSelection {
-        chosen: RectSet::canon(alloc, sorted.chosen)?,
-        rest: RectSet::canon(alloc, sorted.rest)?,
-    })
+    let chosen = RectSet::canon(alloc, sorted.chosen)?;
+    let rest = RectSet::canon(alloc, sorted.rest)?;
+    Ok(CellSelection { chosen, rest })
 }

@@ -7,8 +7,8 @@
 
 mod candidates;
 mod cell;
-mod selection;
 mod sorting;
+mod walk;
 
 pub use cell::{CellSelection, cell_selection};
-pub use selection::Selection;
+pub use walk::find_selection;

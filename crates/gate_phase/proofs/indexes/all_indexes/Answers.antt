@@ -1,7 +1,6 @@
 use Rattle.std.proofs.Common.{◌≡◌, ◌∙◌, ℕ, List, length, length-set, get_or, slice_index, ap, sym, subst, arith}
 use Rattle.cell_graph.specs.Linked.{plain}
 use Rattle.flat_layout.specs.Layout.{IsReached}
-use Rattle.rule_text.specs.Seen.{rules_seen}
 use Rattle.net_phase.proofs.Layering.{layer_there}
 use Rattle.gate_phase.specs.Indexes.{index_lists}
 use Rattle.gate_phase.proofs.Indexing.{cell_set, no_indexes}
@@ -19,9 +18,10 @@ cell_indexes-requires-clause-layers c = λ i lt.
     let n = c.loop-cell.cell-index in
     let long = ap (λ (o : List ℕ). length o) c.order-cell-items.ensures in
     let same : get_or c.order-cell-items.result.now n 0 ≡ slice_index d.order n = ap (λ (o : List ℕ). slice_index o n) c.order-cell-items.ensures in
-    let marks = c.in_ok-marks.ensures in
-    layer_there (plain d) (rules_seen c.args.rules.now) c.args.layers.now _ i c.requires.layers
-    (subst (λ k. IsReached (plain d) k) (sym same) (c.sound.ensures.order.reached n (omega (arith, long)))) (omega (arith, marks))
+    let rules = c.requires.layers in
+    let marks = rules.2 in
+    layer_there (plain d) rules.0 c.args.layers.now _ i rules.1
+    (subst (λ k. IsReached (plain d) k) (sym same) (c.sound.ensures.order.reached n (omega (arith, long)))) (omega (arith, lt, marks))
 
 pub loop-cell-preserved : goal.loop-cell-preserved
 loop-cell-preserved c =
