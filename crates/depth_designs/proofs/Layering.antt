@@ -92,13 +92,13 @@ same_place xs up i j s t e f same = elim (ℕ_discrete i j) [
 
 pub apart_keys : (r : Rules) (depth : ℕ) → IsFormed r → AreApart (stage_keys (stages_by r (at_depth r depth)))
 apart_keys r depth h = at_apart (stage_keys (stages_by r (at_depth r depth))) (λ i j key e f.
-  let a = map_from (λ (s : Stage). s.key) (stages_by r (at_depth r depth)) i key e in
-  let b = map_from (λ (s : Stage). s.key) (stages_by r (at_depth r depth)) j key f in
-  let s = map_from (stage_of r) (at_depth r depth) i a.0 a.1 in
-  let t = map_from (stage_of r) (at_depth r depth) j b.0 b.1 in
-  let one : select_key s.0.name ≡ key = ap (λ (x : Stage). x.key) s.2 ∙ a.2 in
-  let other : select_key t.0.name ≡ key = ap (λ (x : Stage). x.key) t.2 ∙ b.2 in
-  same_place (at_depth r depth) (rising_kept IsNamedBefore (λ x. get_or (depths r) x.name 0 == depth) r.selects h.ascending) i j s.0 t.0 s.1 t.1 (ap (λ (k : LayerKey). k.datatype) (one ∙ sym other)))
+    let a = map_from (λ (s : Stage). s.key) (stages_by r (at_depth r depth)) i key e in
+    let b = map_from (λ (s : Stage). s.key) (stages_by r (at_depth r depth)) j key f in
+    let s = map_from (stage_of r) (at_depth r depth) i a.0 a.1 in
+    let t = map_from (stage_of r) (at_depth r depth) j b.0 b.1 in
+    let one : select_key s.0.name ≡ key = ap (λ (x : Stage). x.key) s.2 ∙ a.2 in
+    let other : select_key t.0.name ≡ key = ap (λ (x : Stage). x.key) t.2 ∙ b.2 in
+    same_place (at_depth r depth) (rising_kept IsNamedBefore (λ x. get_or (depths r) x.name 0 == depth) r.selects h.ascending) i j s.0 t.0 s.1 t.1 (ap (λ (k : LayerKey). k.datatype) (one ∙ sym other)))
 
 -- what the sets hold
 

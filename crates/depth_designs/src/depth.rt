@@ -27,7 +27,12 @@ fn key_of(names: &[LayerRule], select: &SelectRule) -> LayerKey
     ensures { result ≡ select_key select.now.name }
 {
     match names.get(select.name as usize) {
-        Some(LayerRule { form: LayerForm::Input(key), .. }) => *key,
+        Some(
+            LayerRule {
+                form: LayerForm::Input(key),
+                ..
+            },
+        ) => *key,
         _ => LayerKey {
             layer: 0,
             datatype: 0,

@@ -12,7 +12,7 @@ ghost use Rattle.staged_layouts.specs.Staged.{IsStagedDesign};
 
 use crate::sets::depth_sets;
 use cell_graph::{Design, LinkFault};
-use depth_designs::with_found;
+use depth_designs::{depth_after_depth, with_found};
 use flat_layout::Way;
 use job_board::{Crew, Gate};
 use rule_stages::{at_depth, deepest, depths};
@@ -46,9 +46,9 @@ fn with_depth<R: Threads + Wait + Sync, G: Gate + Sync>(
 
 /// The design with a further layer for each selection of the rules: in each cell the chosen ones of
 /// the regions that are whole there and in none that it places. Where the rules have no selection
-/// it is the design itself, in constant time; else each depth costs the zones and the layers of
-/// the names that its selections read, the search of their regions, and linking. A hull that reaches
-/// out of range, of a region of a sized name, is refused by its cell's name.
+/// it is the design itself, at the cost of a look at the names; else each depth costs the zones and
+/// the layers of the names that its selections read, the search of their regions, and linking. A
+/// hull that reaches out of range, of a region of a sized name, is refused by its cell's name.
 pub fn staged<R: Threads + Wait + Sync, G: Gate + Sync>(
     alloc: Global,
     design: Design,
@@ -61,13 +61,18 @@ pub fn staged<R: Threads + Wait + Sync, G: Gate + Sync>(
     ensures staged { IfOk result (IsStagedDesign (stages_of (rules_seen rules.now)) design) }
     ensures fault { IfErr result (IsStageFault (rules_seen rules.now) design) }
 {
+    depth_after_depth();
+    rule_stages::stages();
     let depths = depths(alloc, rules)?;
     let last = deepest(&depths);
     let way = design.way();
     let mut staged = design.keeping(Way::Disturbed);
+    staged.sound();
     for depth in 0..last {
         let selected = at_depth(alloc, rules, &depths, depth + 1)?;
         staged = with_depth(alloc, staged, rules, depth + 1, &selected, crew)?;
     }
-    Ok(staged.keeping(way))
+    let done = staged.keeping(way);
+    done.sound();
+    Ok(done)
 }
