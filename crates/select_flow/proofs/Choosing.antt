@@ -17,7 +17,8 @@ use Rattle.select_laws.specs.Selects.{Select, sight}
 use Rattle.select_laws.specs.Whole.{ArePartedRegions}
 use Rattle.select_phase.specs.Found.{AreFound, IsCellSelection}
 use Rattle.select_phase.specs.declared.cell.CellSelection.{CellSelection}
-use Rattle.select_flow.specs.Sets.{chosen_of, chosen_sets, AreChosen, AreChosenTo}
+use Rattle.depth_designs.specs.Chosen.{AreChosen, AreChosenTo}
+use Rattle.select_flow.specs.Sets.{chosen_of, chosen_sets}
 
 get_chosen : (found : List (Option CellSelection)) (cell : ℕ) → get_or (map chosen_of found) cell [] ≡ chosen_of (get_or found cell None)
 get_chosen [] cell = refl

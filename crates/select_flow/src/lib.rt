@@ -5,7 +5,6 @@
 //! is found cell by cell, and the design gets what the cells hold of them as further layers.
 #![tactic(auto)]
 
-mod depth;
 mod sets;
 mod stages;
 

@@ -1,6 +1,6 @@
 //! What cells hold of the selections of one depth.
 
-ghost use Rattle.std.specs.Prelude.{◌≡◌, ℕ, ◌<◌, ◌^◌, IfOk, Some, length, slice_get};
+ghost use Rattle.std.specs.Prelude.{◌≡◌, ℕ, IfOk, Some, length, slice_get};
 ghost use Rattle.cell_graph.specs.Linked.{plain};
 ghost use Rattle.deep_tables.specs.Zones.{AreZones};
 ghost use Rattle.flat_layout.specs.declared.way.Way.TheVariants.{Disturbed};
@@ -12,11 +12,12 @@ ghost use Rattle.rule_stages.specs.Stages.{AreSelectsOf, at_depth};
 ghost use Rattle.rule_text.specs.Seen.{rules_seen};
 ghost use Rattle.rule_text.specs.Sound.{IsSound};
 ghost use Rattle.rule_text.specs.declared.rules.SelectRule.{SelectRule};
-ghost use Rattle.select_flow.specs.Sets.{AreChosenTo, chosen_of, chosen_sets};
+ghost use Rattle.depth_designs.specs.Chosen.{AreChosenTo};
+ghost use Rattle.select_flow.specs.Sets.{chosen_of, chosen_sets};
 
 use cell_graph::Design;
 use deep_flow::{find_layers, find_zones};
-use deep_tables::{Layers, Zones};
+use deep_tables::Zones;
 use gate_phase::IndexedLayers;
 use job_board::{Crew, Gate};
 use list_base::number;
@@ -38,10 +39,7 @@ fn chosen_of(alloc: Global, found: &Option<CellSelection>) -> Result<RectSet, Al
     }
 }
 
-fn chosen_sets(
-    alloc: Global,
-    found: &[Option<CellSelection>],
-) -> Result<Vec<RectSet>, AllocError>
+fn chosen_sets(alloc: Global, found: &[Option<CellSelection>]) -> Result<Vec<RectSet>, AllocError>
     ensures { IfOk result (λ v. v.items ≡ chosen_sets found.now) }
 {
     let mut sets = Vec::new(alloc);

@@ -22,7 +22,8 @@ pub struct CellSelection {
 }
 
 /// What a cell finds of a selection, over what its placed cells found: `below` by cells' numbers.
-/// In O(n log n) for n rectangles of the candidates and what lies close to these.
+/// In O(n log n) for n rectangles of the candidates and of what lies close to these, where the
+/// site's layers have an index of the other name.
 pub fn cell_selection(
     alloc: Global,
     site: &Site,

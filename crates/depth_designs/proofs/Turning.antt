@@ -27,7 +27,7 @@ use Rattle.select_laws.specs.Layered.{IsLayered, IsSameElse}
 use Rattle.select_laws.specs.Staged.{AreInTurn, IsKeyOf, IsStaged, Stage}
 use Rattle.staged_designs.specs.Depths.{stage_keys}
 use Rattle.staged_layouts.specs.Staged.{IsStagedCell, IsStagedDesign, StagedOnLaw}
-use Rattle.select_flow.specs.Stages.{AreDrawn, AreUnused, IsDepthFault, IsFarBy, IsFarStage, IsStageFault, stages_by}
+use Rattle.depth_designs.specs.Stages.{AreDrawn, AreUnused, IsDepthFault, IsFarBy, IsFarStage, IsStageFault, stages_by}
 
 -- no selections
 
@@ -74,16 +74,18 @@ next_depth law r d m e count selected is one other =
 
 -- layers of deeper selections aren't used yet
 
+equal : (m n : ℕ) → (m == n) ≡ true → m ≡ n
+equal m n e = grind (arith, e)
+
+depth_by : (b : Bool) (r : Rules) (depth : ℕ) (x s : SelectRule) (ys : List SelectRule) → (get_or (depths r) x.name 0 == depth) ≡ b → (IsListed s ys → get_or (depths r) s.name 0 ≡ depth) → IsListed s (cond b (x ∷ ys) ys)
+    → get_or (depths r) s.name 0 ≡ depth
+depth_by true r depth x s ys e rest (inl same) = ap (λ (y : SelectRule). get_or (depths r) y.name 0) same ∙ equal (get_or (depths r) x.name 0) depth e
+depth_by true r depth x s ys e rest (inr g) = rest g
+depth_by false r depth x s ys e rest g = rest g
+
 of_depth : (r : Rules) (depth : ℕ) (xs : List SelectRule) (s : SelectRule) → IsListed s (filter (λ x. get_or (depths r) x.name 0 == depth) xs) → get_or (depths r) s.name 0 ≡ depth
 of_depth r depth [] s h = absurd h
-of_depth r depth (x ∷ xs) s h = by (get_or (depths r) x.name 0 == depth) refl h
-  where
-    equal : (m n : ℕ) → (m == n) ≡ true → m ≡ n
-    equal m n e = grind (arith, e)
-    by : (b : Bool) → (get_or (depths r) x.name 0 == depth) ≡ b → IsListed s (cond b (x ∷ filter (λ y. get_or (depths r) y.name 0 == depth) xs) (filter (λ y. get_or (depths r) y.name 0 == depth) xs)) → get_or (depths r) s.name 0 ≡ depth
-    by true e (inl same) = ap (λ (y : SelectRule). get_or (depths r) y.name 0) same ∙ equal (get_or (depths r) x.name 0) depth e
-    by true e (inr g) = of_depth r depth xs s g
-    by false e g = of_depth r depth xs s g
+of_depth r depth (x ∷ xs) s h = depth_by (get_or (depths r) x.name 0 == depth) r depth x s (filter (λ y. get_or (depths r) y.name 0 == depth) xs) refl (of_depth r depth xs s) h
 
 below_last : (r : Rules) (depth count : ℕ) (s : SelectRule) → IsListed s (from_depth r depth count) → get_or (depths r) s.name 0 < depth + count
 below_last r depth zero s h = absurd h

@@ -1,8 +1,8 @@
 use Rattle.std.proofs.Common.{◌≡◌, ◌++◌, drop}
 use Rattle.rule_text.specs.Seen.{rules_seen}
-use Rattle.select_flow.specs.Stages.{stages_by}
+use Rattle.depth_designs.specs.Stages.{stages_by}
 use Rattle.staged_designs.specs.Depths.{stage_keys}
-use Rattle.select_flow.proofs.depth.keys_of.Given as goal
+use Rattle.depth_designs.proofs.depth.keys_of.Given as goal
 
 abbrev pub invariant-loop-select : goal.invariant-loop-select
 invariant-loop-select l =

@@ -12,11 +12,15 @@ use Rattle.std.proofs.lemmas.Option.{slice_get_within, same_Some}
 use Rattle.plain_netlist.specs.Lists.{AreApart, AreRising, IsListed}
 use Rattle.plain_netlist.proofs.Listing.{at_apart, rising_at}
 use Rattle.plain_netlist.proofs.Members.{position}
+use Rattle.cell_graph.specs.Layering.{AreFurther, IsLayerFault, IsLayeredDesign}
 use Rattle.cell_graph.specs.Linked.{IsOrder, Linked, plain}
+use Rattle.cell_graph.specs.Linked.{IsSound as IsSoundDesign}
+use Rattle.cell_graph.specs.declared.drafts.LinkFault.{LinkFault}
+use Rattle.cell_graph.specs.declared.drafts.LinkFault.TheVariants as fault
 use Rattle.cell_graph.specs.declared.cells.OwnLayer.{OwnLayer}
 use Rattle.flat_layout.specs.Layers.{Formula}
 use Rattle.flat_layout.specs.Layout.{IsReached}
-use Rattle.further_layers.specs.Further.{AreCellLayers, AreSelected, set_at}
+use Rattle.further_layers.specs.Further.{AreCellLayers, AreFurtherFound, AreSelected, FurtherLaw, set_at}
 use Rattle.geo_base.specs.declared.layer.LayerKey.{LayerKey}
 use Rattle.geo_base.specs.declared.shapes.Rect.{Rect}
 use Rattle.geo_base.specs.declared.shapes.Square.{Square}
@@ -32,10 +36,10 @@ use Rattle.select_laws.specs.Layered.{IsOwnSelected}
 use Rattle.select_laws.specs.Selects.{sight}
 use Rattle.select_laws.specs.Whole.{ArePartedRegions}
 use Rattle.select_laws.specs.Staged.{Stage, Reads as StageReads}
-use Rattle.staged_designs.specs.Depths.{AreFree, stage_keys}
-use Rattle.staged_layouts.specs.Staged.{AreFresh}
-use Rattle.select_flow.specs.Sets.{AreChosen, AreChosenTo}
-use Rattle.select_flow.specs.Stages.{AreUnused, stages_by}
+use Rattle.staged_designs.specs.Depths.{AreFound, AreFree, stage_keys}
+use Rattle.staged_layouts.specs.Staged.{AreFresh, IsStagedDesign, StagedDepthLaw}
+use Rattle.depth_designs.specs.Chosen.{AreChosen, AreChosenTo}
+use Rattle.depth_designs.specs.Stages.{AreUnused, IsDepthFault, stages_by}
 
 -- reached or not
 
@@ -60,22 +64,22 @@ reached_or d order cell = elim (search_to d.order cell (length d.order)) [
 
 -- the keys of selections of a depth differ
 
+kept_by : (b : Bool) (x : SelectRule) (xs ys : List SelectRule) (y : SelectRule) → (IsListed y ys → IsListed y xs) → IsListed y (cond b (x ∷ ys) ys) → IsListed y (x ∷ xs)
+kept_by true x xs ys y rest (inl e) = inl e
+kept_by true x xs ys y rest (inr g) = inr (rest g)
+kept_by false x xs ys y rest g = inr (rest g)
+
 in_kept : (p : SelectRule → Bool) (xs : List SelectRule) (y : SelectRule) → IsListed y (filter p xs) → IsListed y xs
 in_kept p [] y h = absurd h
-in_kept p (x ∷ xs) y h = by (p x) h
-  where
-    by : (b : Bool) → IsListed y (cond b (x ∷ filter p xs) (filter p xs)) → IsListed y (x ∷ xs)
-    by true (inl e) = inl e
-    by true (inr g) = inr (in_kept p xs y g)
-    by false g = inr (in_kept p xs y g)
+in_kept p (x ∷ xs) y h = kept_by (p x) x xs (filter p xs) y (in_kept p xs y) h
+
+rising_by : (b : Bool) (R : SelectRule → SelectRule → Type 0) (x : SelectRule) (ys : List SelectRule) → ((y : SelectRule) → IsListed y ys → R x y) → AreRising R ys → AreRising R (cond b (x ∷ ys) ys)
+rising_by true R x ys first rest = (first, rest)
+rising_by false R x ys first rest = rest
 
 rising_kept : (R : SelectRule → SelectRule → Type 0) (p : SelectRule → Bool) (xs : List SelectRule) → AreRising R xs → AreRising R (filter p xs)
 rising_kept R p [] h = tt
-rising_kept R p (x ∷ xs) h = by (p x)
-  where
-    by : (b : Bool) → AreRising R (cond b (x ∷ filter p xs) (filter p xs))
-    by true = ((λ y g. h.0 y (in_kept p xs y g)), rising_kept R p xs h.1)
-    by false = rising_kept R p xs h.1
+rising_kept R p (x ∷ xs) h = rising_by (p x) R x (filter p xs) (λ y g. h.0 y (in_kept p xs y g)) (rising_kept R p xs h.1)
 
 same_place : (xs : List SelectRule) → AreRising IsNamedBefore xs → (i j : ℕ) (s t : SelectRule) → slice_get xs i ≡ Some s → slice_get xs j ≡ Some t → s.name ≡ t.name → i ≡ j
 same_place xs up i j s t e f same = elim (ℕ_discrete i j) [
@@ -88,13 +92,13 @@ same_place xs up i j s t e f same = elim (ℕ_discrete i j) [
 
 pub apart_keys : (r : Rules) (depth : ℕ) → IsFormed r → AreApart (stage_keys (stages_by r (at_depth r depth)))
 apart_keys r depth h = at_apart (stage_keys (stages_by r (at_depth r depth))) (λ i j key e f.
-  let a = map_from (λ (s : Stage). s.key) (stages_by r (at_depth r depth)) i key e in
-  let b = map_from (λ (s : Stage). s.key) (stages_by r (at_depth r depth)) j key f in
-  let s = map_from (stage_of r) (at_depth r depth) i a.0 a.1 in
-  let t = map_from (stage_of r) (at_depth r depth) j b.0 b.1 in
-  let one : select_key s.0.name ≡ key = ap (λ (x : Stage). x.key) s.2 ∙ a.2 in
-  let other : select_key t.0.name ≡ key = ap (λ (x : Stage). x.key) t.2 ∙ b.2 in
-  same_place (at_depth r depth) (rising_kept IsNamedBefore (λ x. get_or (depths r) x.name 0 == depth) r.selects h.ascending) i j s.0 t.0 s.1 t.1 (ap (λ (k : LayerKey). k.datatype) (one ∙ sym other)))
+    let a = map_from (λ (s : Stage). s.key) (stages_by r (at_depth r depth)) i key e in
+    let b = map_from (λ (s : Stage). s.key) (stages_by r (at_depth r depth)) j key f in
+    let s = map_from (stage_of r) (at_depth r depth) i a.0 a.1 in
+    let t = map_from (stage_of r) (at_depth r depth) j b.0 b.1 in
+    let one : select_key s.0.name ≡ key = ap (λ (x : Stage). x.key) s.2 ∙ a.2 in
+    let other : select_key t.0.name ≡ key = ap (λ (x : Stage). x.key) t.2 ∙ b.2 in
+    same_place (at_depth r depth) (rising_kept IsNamedBefore (λ x. get_or (depths r) x.name 0 == depth) r.selects h.ascending) i j s.0 t.0 s.1 t.1 (ap (λ (k : LayerKey). k.datatype) (one ∙ sym other)))
 
 -- what the sets hold
 
@@ -150,3 +154,48 @@ free_stages law r depth sound i j x y e f reads =
 
 pub select_known : (r : Rules) (selected : List SelectRule) (k : ℕ) (s : SelectRule) → IsFormed r → AreSelectsOf r selected → slice_get selected k ≡ Some s → IsSelectRule r.names s
 select_known r selected k s h of at = let o = of k s at in h.selects o.0 s o.1
+
+-- all of one depth
+
+pub found_all : FurtherLaw → (d : Linked) (r : Rules) (depth : ℕ) (selected : List SelectRule) (lists : List (List (List Rect))) (keys : List LayerKey) (cells : ℕ) (further : List (Vec OwnLayer)) → IsSound r → selected ≡ at_depth r depth
+    → keys ≡ stage_keys (stages_by r selected) → cells ≡ length d.cells → AreChosenTo (plain d) (formulas r.names) selected (length selected) lists → AreCellLayers keys lists cells further → AreFurtherFound d (stages_by r selected) further
+found_all law d r depth selected lists keys cells further sound is keys_are count chosen are =
+    law d (stages_by r selected) lists further
+    (subst (λ (l : List SelectRule). AreApart (stage_keys (stages_by r l))) (sym is) (apart_keys r depth sound.formed))
+    (selected_sets d r selected lists chosen)
+    (subst (λ n. AreCellLayers (stage_keys (stages_by r selected)) lists n further) count (subst (λ (ks : List LayerKey). AreCellLayers ks lists cells further) keys_are are))
+
+pub fresh_all : (d : Linked) (r : Rules) (selected : List SelectRule) (lists : List (List (List Rect))) (keys : List LayerKey) (cells : ℕ) (further : List (Vec OwnLayer)) → IsOrder d → AreUnused d (stages_by r selected)
+    → keys ≡ stage_keys (stages_by r selected) → cells ≡ length d.cells → AreChosenTo (plain d) (formulas r.names) selected (length selected) lists → AreCellLayers keys lists cells further → AreFresh d (stages_by r selected) further
+fresh_all d r selected lists keys cells further order unused keys_are count chosen are =
+    fresh_layers d (stages_by r selected) lists further order unused (selected_sets d r selected lists chosen)
+    (subst (λ n. AreCellLayers (stage_keys (stages_by r selected)) lists n further) count (subst (λ (ks : List LayerKey). AreCellLayers ks lists cells further) keys_are are))
+
+depth_by : StagedDepthLaw → (d e : Linked) (stages : List Stage) (further : List (Vec OwnLayer)) → (stages ≡ [] → ⊥) → AreFurther d.cells (stage_keys stages) further → IsLayeredDesign d (stage_keys stages) further e → AreFound d stages further
+    → AreFree stages → AreFresh d stages further → IsSoundDesign e → IsStagedDesign stages d e
+depth_by law d e [] further some_ = absurd (some_ refl)
+depth_by law d e (s ∷ ss) further some_ = law d e s ss further
+
+no_stages : (r : Rules) (selected : List SelectRule) → (selected ≡ [] → ⊥) → stages_by r selected ≡ [] → ⊥
+no_stages r [] some_ e = some_ refl
+no_stages r (s ∷ ss) some_ e = let w : ⊥ = cc in w
+
+pub depth_staged : StagedDepthLaw → FreeLaw → (d e : Linked) (r : Rules) (depth : ℕ) (selected : List SelectRule) (keys : List LayerKey) (further : List (Vec OwnLayer)) → IsSound r → selected ≡ at_depth r depth → (selected ≡ [] → ⊥)
+    → keys ≡ stage_keys (stages_by r selected) → AreFurther d.cells (stage_keys (stages_by r selected)) further → AreFound d (stages_by r selected) further → AreFresh d (stages_by r selected) further
+    → IsLayeredDesign d keys further e → IsSoundDesign e → IsStagedDesign (stages_by r selected) d e
+depth_staged law free d e r depth selected keys further sound is some_ keys_are are found fresh made sound_design =
+    depth_by law d e (stages_by r selected) further (no_stages r selected some_) are (subst (λ (ks : List LayerKey). IsLayeredDesign d ks further e) keys_are made) found
+    (subst (λ (l : List SelectRule). AreFree (stages_by r l)) (sym is) (free_stages free r depth sound)) fresh sound_design
+
+pub depth_fault : (d : Linked) (r : Rules) (selected : List SelectRule) (keys : List LayerKey) (further : List (Vec OwnLayer)) (f : LinkFault) → keys ≡ stage_keys (stages_by r selected) → AreFound d (stages_by r selected) further
+    → IsLayerFault d.cells keys further f → IsDepthFault r d selected f
+depth_fault d r selected keys further (fault.CoordinateRange name) keys_are found far =
+    record { further = further; found = found; far = subst (λ (ks : List LayerKey). IsLayerFault d.cells ks further (fault.CoordinateRange name)) keys_are far }
+depth_fault d r selected keys further fault.TooManyCells keys_are found far = far
+depth_fault d r selected keys further (fault.DuplicateCell name) keys_are found far = far
+depth_fault d r selected keys further (fault.NoSuchCell name) keys_are found far = far
+depth_fault d r selected keys further (fault.Cycle name) keys_are found far = far
+depth_fault d r selected keys further (fault.TooDeep name) keys_are found far = far
+depth_fault d r selected keys further fault.NoTop keys_are found far = far
+depth_fault d r selected keys further (fault.TopUnclear a b) keys_are found far = far
+depth_fault d r selected keys further fault.NoMemory keys_are found far = far

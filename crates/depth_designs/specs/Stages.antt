@@ -1,8 +1,8 @@
 -- A design with the layers of the rules' selections.
-use Rattle.std.specs.Prelude.{◌≡◌, ℕ, suc, List, Some, map}
+use Rattle.std.specs.Prelude.{◌≡◌, ℕ, suc, ◌+◌, List, [], Some, map}
 use Rattle.std.specs.Global.{Vec}
-use Rattle.cell_graph.specs.Layering.{IsLayerFault}
-use Rattle.cell_graph.specs.Linked.{Linked, cell_at, keeping, layer_keys}
+use Rattle.cell_graph.specs.Layering.{HaveNames, IsLayerFault}
+use Rattle.cell_graph.specs.Linked.{IsSound, Linked, cell_at, keeping, layer_keys}
 use Rattle.cell_graph.specs.declared.cells.CellPart.{CellPart}
 use Rattle.cell_graph.specs.declared.cells.OwnLayer.{OwnLayer}
 use Rattle.cell_graph.specs.declared.drafts.LinkFault.{LinkFault}
@@ -14,7 +14,7 @@ use Rattle.plain_netlist.specs.Lists.{IsListed}
 use Rattle.rule_stages.specs.Stages.{at_depth, from_depth, stage_of}
 use Rattle.rule_text.specs.Rules.{Rules}
 use Rattle.rule_text.specs.declared.rules.SelectRule.{SelectRule}
-use Rattle.select_laws.specs.Staged.{IsKeyOf, Stage}
+use Rattle.select_laws.specs.Staged.{AreInTurn, IsKeyOf, Stage}
 use Rattle.staged_designs.specs.Depths.{AreFound, stage_keys}
 use Rattle.staged_layouts.specs.Staged.{IsStagedDesign}
 
@@ -53,3 +53,37 @@ pub record IsFarStage (r : Rules) (d : Linked) (fault : LinkFault) : Type 0 wher
 abbrev pub IsStageFault : Rules → Linked → LinkFault → Type 0
 IsStageFault r d (CoordinateRange name) = IsFarStage r d (CoordinateRange name)
 IsStageFault r d fault = fault ≡ NoMemory
+
+-- ---- depth after depth
+
+-- a design has no selections of its own
+abbrev pub NoneLaw : Type 0
+NoneLaw = (d : Linked) → IsSound d → IsStagedDesign [] d d
+
+-- with the selections of the next depth it has those of one depth more
+abbrev pub NextDepthLaw : Type 0
+NextDepthLaw = (r : Rules) (d m e : Linked) (count : ℕ)
+    → IsStagedDesign (stages_by r (from_depth r 1 count)) d m
+    → IsStagedDesign (stages_by r (at_depth r (count + 1))) m e
+    → IsStagedDesign (stages_by r (from_depth r 1 (count + 1))) d e
+
+-- whose layers no cell held before
+abbrev pub UnusedLaw : Type 0
+UnusedLaw = (r : Rules) (d m : Linked) (count : ℕ) → AreDrawn d
+    → IsStagedDesign (stages_by r (from_depth r 1 count)) d m
+    → AreUnused m (stages_by r (at_depth r (count + 1)))
+
+abbrev pub NamesLaw : Type 0
+NamesLaw = (stages : List Stage) (d e : Linked) → IsStagedDesign stages d e → HaveNames d.cells
+    → HaveNames e.cells
+
+-- selections are the same in each way of keeping squares
+abbrev pub WayLaw : Type 0
+WayLaw = (stages : List Stage) (d e : Linked) → AreInTurn stages → IsSound (keeping d.way e)
+    → IsStagedDesign stages (keeping Disturbed d) e → IsStagedDesign stages d (keeping d.way e)
+
+-- what is refused at a depth is a fault of all
+abbrev pub FaultLaw : Type 0
+FaultLaw = (r : Rules) (d m : Linked) (count : ℕ) (fault : LinkFault)
+    → IsStagedDesign (stages_by r (from_depth r 1 count)) (keeping Disturbed d) m
+    → IsDepthFault r m (at_depth r (count + 1)) fault → IsStageFault r d fault
