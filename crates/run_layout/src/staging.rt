@@ -1,7 +1,9 @@
 //! The layout with the rules' selections.
 
 ghost use Rattle.std.specs.Prelude.{◌≡◌, ℕ, List, Option, IfErr, IfOk};
+ghost use Rattle.cell_graph.specs.declared.drafts.LinkFault.TheVariants.{NoMemory as NoLinkMemory};
 ghost use Rattle.gds_layout.specs.Layouts.{IsRead};
+ghost use Rattle.gds_layout.specs.declared.layout.LayoutFault.TheVariants.{NoMemory};
 ghost use Rattle.rule_layers.specs.Meaning.{way_of};
 ghost use Rattle.rule_text.specs.Seen.{rules_seen};
 ghost use Rattle.rule_text.specs.Sound.{IsSound};
@@ -19,6 +21,17 @@ use staged_layouts::staged;
 use std::alloc::Global;
 use std::sync::Wait;
 use std::thread::Threads;
+
+// Where the hulls leave room, the selections are refused for want of memory alone.
+fn want_of_memory(fault: LinkFault) -> LayoutFault
+    requires { fault ≡ NoLinkMemory }
+    ensures { result ≡ NoMemory }
+{
+    match fault {
+        LinkFault::NoMemory => LayoutFault::NoMemory,
+        _ => unreachable!(),
+    }
+}
 
 /// The layout on which a run by these rules works: what was read, with a further layer for each
 /// selection of the rules, and the same where they have none. Refused, as a coordinate out of range,
@@ -59,7 +72,6 @@ pub fn run_layout<R: Threads + Wait + Sync, G: Gate + Sync>(
             cell_dates,
             design,
         }),
-        Err(LinkFault::NoMemory) => Err(LayoutFault::NoMemory),
-        Err(_) => unreachable!(),
+        Err(fault) => Err(want_of_memory(fault)),
     }
 }
