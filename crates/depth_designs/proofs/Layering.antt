@@ -187,15 +187,15 @@ depth_staged law free d e r depth selected keys further sound is some_ keys_are 
     depth_by law d e (stages_by r selected) further (no_stages r selected some_) are (subst (λ (ks : List LayerKey). IsLayeredDesign d ks further e) keys_are made) found
     (subst (λ (l : List SelectRule). AreFree (stages_by r l)) (sym is) (free_stages free r depth sound)) fresh sound_design
 
-pub depth_fault : (d : Linked) (r : Rules) (selected : List SelectRule) (keys : List LayerKey) (further : List (Vec OwnLayer)) (f : LinkFault) → keys ≡ stage_keys (stages_by r selected) → AreFound d (stages_by r selected) further
-    → IsLayerFault d.cells keys further f → IsDepthFault r d selected f
-depth_fault d r selected keys further (fault.CoordinateRange name) keys_are found far =
-    record { further = further; found = found; far = subst (λ (ks : List LayerKey). IsLayerFault d.cells ks further (fault.CoordinateRange name)) keys_are far }
-depth_fault d r selected keys further fault.TooManyCells keys_are found far = far
-depth_fault d r selected keys further (fault.DuplicateCell name) keys_are found far = far
-depth_fault d r selected keys further (fault.NoSuchCell name) keys_are found far = far
-depth_fault d r selected keys further (fault.Cycle name) keys_are found far = far
-depth_fault d r selected keys further (fault.TooDeep name) keys_are found far = far
-depth_fault d r selected keys further fault.NoTop keys_are found far = far
-depth_fault d r selected keys further (fault.TopUnclear a b) keys_are found far = far
-depth_fault d r selected keys further fault.NoMemory keys_are found far = far
+pub depth_fault : (d : Linked) (r : Rules) (selected : List SelectRule) (keys : List LayerKey) (further : List (Vec OwnLayer)) (f : LinkFault) → keys ≡ stage_keys (stages_by r selected)
+    → AreFurther d.cells (stage_keys (stages_by r selected)) further → AreFound d (stages_by r selected) further → AreFresh d (stages_by r selected) further → IsLayerFault d.cells keys further f → IsDepthFault r d selected f
+depth_fault d r selected keys further (fault.CoordinateRange name) keys_are are found fresh far =
+    record { further = further; layers = are; found = found; fresh = fresh; far = subst (λ (ks : List LayerKey). IsLayerFault d.cells ks further (fault.CoordinateRange name)) keys_are far }
+depth_fault d r selected keys further fault.TooManyCells keys_are are found fresh far = far
+depth_fault d r selected keys further (fault.DuplicateCell name) keys_are are found fresh far = far
+depth_fault d r selected keys further (fault.NoSuchCell name) keys_are are found fresh far = far
+depth_fault d r selected keys further (fault.Cycle name) keys_are are found fresh far = far
+depth_fault d r selected keys further (fault.TooDeep name) keys_are are found fresh far = far
+depth_fault d r selected keys further fault.NoTop keys_are are found fresh far = far
+depth_fault d r selected keys further (fault.TopUnclear a b) keys_are are found fresh far = far
+depth_fault d r selected keys further fault.NoMemory keys_are are found fresh far = far

@@ -1,7 +1,7 @@
 -- A design with the layers of the rules' selections.
 use Rattle.std.specs.Prelude.{◌≡◌, ℕ, suc, ◌+◌, List, [], Some, map}
 use Rattle.std.specs.Global.{Vec}
-use Rattle.cell_graph.specs.Layering.{HaveNames, IsLayerFault}
+use Rattle.cell_graph.specs.Layering.{AreFurther, HaveNames, IsLayerFault}
 use Rattle.cell_graph.specs.Linked.{IsSound, Linked, cell_at, keeping, layer_keys}
 use Rattle.cell_graph.specs.declared.cells.CellPart.{CellPart}
 use Rattle.cell_graph.specs.declared.cells.OwnLayer.{OwnLayer}
@@ -16,7 +16,7 @@ use Rattle.rule_text.specs.Rules.{Rules}
 use Rattle.rule_text.specs.declared.rules.SelectRule.{SelectRule}
 use Rattle.select_laws.specs.Staged.{AreInTurn, IsKeyOf, Stage}
 use Rattle.staged_designs.specs.Depths.{AreFound, stage_keys}
-use Rattle.staged_layouts.specs.Staged.{IsStagedDesign}
+use Rattle.staged_layouts.specs.Staged.{AreFresh, IsStagedDesign}
 
 abbrev pub stages_by : Rules → List SelectRule → List Stage
 stages_by r selected = map (stage_of r) selected
@@ -35,7 +35,9 @@ AreUnused d stages = (i : ℕ) (c : CellPart) (key : LayerKey) → cell_at d i �
 pub record IsFarBy (r : Rules) (d : Linked) (selected : List SelectRule) (fault : LinkFault) :
     Type 0 where
   pub further : List (Vec OwnLayer)
+  pub layers : AreFurther d.cells (stage_keys (stages_by r selected)) further
   pub found : AreFound d (stages_by r selected) further
+  pub fresh : AreFresh d (stages_by r selected) further
   pub far : IsLayerFault d.cells (stage_keys (stages_by r selected)) further fault
 
 abbrev pub IsDepthFault : Rules → Linked → List SelectRule → LinkFault → Type 0

@@ -14,7 +14,8 @@ use Rattle.gds_layout.proofs.SamePlain.{same_plain}
 use Rattle.layout_shapes.specs.Wide.{IsFarOut}
 use Rattle.layout_shapes.specs.Written.{name_of}
 use Rattle.rule_text.specs.Rules.{Rules}
-use Rattle.run_layout.specs.Far.{IsFirstFar, IsNear, selects_reach}
+use Rattle.run_layout.specs.Far.{IsFirstFar, IsNear}
+use Rattle.selection_hulls.specs.Near.{selects_reach}
 
 cells_count : (xs ys : List CellPart) → map contents xs ≡ map contents ys → length xs ≡ length ys
 cells_count xs ys e = sym (map_count contents xs) ∙ ap (λ (cs : List (flat.Cell × List Place)). length cs) e ∙ map_count contents ys

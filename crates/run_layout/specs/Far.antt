@@ -1,16 +1,12 @@
 -- Layouts whose hulls leave room for what selections of sized names reach beyond them.
-use Rattle.std.specs.Prelude.{◌≡◌, ℕ, ◌*◌, ◌^◌, min, List, length, Option, Some, None}
+use Rattle.std.specs.Prelude.{◌≡◌, ℕ, List, length, Option, Some, None}
 use Rattle.cell_graph.specs.Firsts.{IsFirstOr}
 use Rattle.cell_graph.specs.Linked.{Linked, cell_at, plain}
 use Rattle.gds_layout.specs.declared.layout.Layout.{Layout}
 use Rattle.layout_shapes.specs.Wide.{IsFarOut}
 use Rattle.layout_shapes.specs.Written.{name_of}
-use Rattle.rule_text.specs.Reaches.{MOST_REACH}
 use Rattle.rule_text.specs.Rules.{Rules}
-
--- how far from what is drawn the rules' selections reach at most, none further than a name may
-abbrev pub selects_reach : Rules → ℕ
-selects_reach r = min (length r.selects) (2 ^ 18) * MOST_REACH
+use Rattle.selection_hulls.specs.Near.{selects_reach}
 
 -- the first cell in the order of the file whose hull, grown so far, leaves plus or minus 2^36; or
 -- there is none

@@ -14,6 +14,7 @@ use job_board::{Crew, Gate};
 use rule_stages::stages;
 use rule_text::RuleSet;
 use select_flow::staged as staged_design;
+use selection_hulls::hulls_with_selections;
 use staged_layouts::staged;
 use std::alloc::Global;
 use std::sync::Wait;
@@ -41,6 +42,8 @@ pub fn run_layout<R: Threads + Wait + Sync, G: Gate + Sync>(
     layering_laws();
     stages();
     staged();
+    hulls_with_selections();
+    layout.design.sound();
     if let Some(cell) = first_far(&layout.design, selects_reach(rules)) {
         let name = layout.design.name(cell).try_clone(alloc)?;
         return Err(LayoutFault::Link(LinkFault::CoordinateRange(name)));
@@ -56,6 +59,7 @@ pub fn run_layout<R: Threads + Wait + Sync, G: Gate + Sync>(
             cell_dates,
             design,
         }),
-        Err(_) => Err(LayoutFault::NoMemory),
+        Err(LinkFault::NoMemory) => Err(LayoutFault::NoMemory),
+        Err(_) => unreachable!(),
     }
 }

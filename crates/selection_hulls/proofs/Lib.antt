@@ -1,0 +1,5 @@
+pub mod Corners
+pub mod Near
+pub mod Points
+pub mod Counting
+pub mod Room
