@@ -1,4 +1,3 @@
-use Rattle.std.proofs.Common.{◌≤◌}
 use Rattle.cell_graph.specs.Linked.{keeping}
 use Rattle.flat_layout.specs.declared.way.Way.TheVariants.{Disturbed}
 use Rattle.rule_stages.specs.Stages.{from_depth}
@@ -8,4 +7,4 @@ use Rattle.staged_layouts.specs.Staged.{IsStagedDesign}
 use Rattle.select_flow.proofs.stages.staged.Given as goal
 
 abbrev pub invariant-loop-depth : goal.invariant-loop-depth
-invariant-loop-depth l = IsStagedDesign (stages_by (rules_seen l.rules) (from_depth (rules_seen l.rules) 1 l.depth)) (keeping Disturbed l.fn.design) l.staged
+invariant-loop-depth g l = IsStagedDesign (stages_by (rules_seen l.rules) (from_depth (rules_seen l.rules) 1 l.depth)) (keeping Disturbed l.fn.design) l.staged
