@@ -1,5 +1,5 @@
 -- The page is written to another path than the database.
-use Rattle.std.proofs.Common.{◌≡◌, ◌≢◌, ℕ, Bool, true, false, List, Option, Some, None, IfSome, refl, subst}
+use Rattle.std.proofs.Common.{◌≡◌, ◌≢◌, ℕ, Bool, true, false, List, Option, Some, None, IfSome, if◌then◌else◌, refl, subst}
 use Rattle.std.specs.Option.{option_and_then}
 use Rattle.lvs_words.specs.declared.flag.Flag.TheVariants as flag
 use Rattle.lvs_words.specs.Fitting.{fits, workers_of}
