@@ -7,6 +7,7 @@ ghost use Rattle.std.specs.Process.{exit_status};
 
 mod built;
 mod hindered;
+mod looking;
 mod rules;
 mod running;
 mod telling;

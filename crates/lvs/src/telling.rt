@@ -1,6 +1,7 @@
 //! What is printed for people: help, version, and what a run came to.
 
 use crate::built::BUILT;
+use crate::looking::second_page;
 use crate::rules::refused_rules;
 use lvs_talk::{
     Call, Ended, Hindrance, Texts, add_help, add_line, input_path, netlist_path, report_path,
@@ -9,8 +10,10 @@ use lvs_talk::{
 use std::alloc::Global;
 use std::fs;
 use std::rt::Files;
+use std::sync::Wait;
+use std::thread::Threads;
 
-const VERSION: &str = "lvs, text of 1 December 2026; ";
+const VERSION: &str = "lvs, text of 2 December 2026; ";
 
 // The exit statuses of what was printed, and where it couldn't be.
 const DONE: u8 = 0;
@@ -30,7 +33,8 @@ pub fn bytes_of<R: Files + AllocGlobal>(rt: &R, alloc: Global, path: &str) -> Ve
     }
 }
 
-fn text_of(bytes: &[u8]) -> &str {
+/// The text of bytes; nothing where they are none.
+pub fn text_of(bytes: &[u8]) -> &str {
     str::from_utf8(bytes).unwrap_or("")
 }
 
@@ -95,7 +99,7 @@ pub fn tell_failed<R: Eprint>(rt: &R, alloc: Global, path: &str, call: Call, is_
 }
 
 /// Tells people what a run came to that ended with this exit status, and sent this line.
-pub fn tell_after<R: Files + Eprint + AllocGlobal>(
+pub fn tell_after<R: Threads + Wait + Sync + Files + Eprint + AllocGlobal>(
     rt: &R,
     alloc: Global,
     words: &[String],
@@ -107,6 +111,7 @@ pub fn tell_after<R: Files + Eprint + AllocGlobal>(
     let schematic = bytes_of(rt, alloc, schematic_path(&ended));
     let report = bytes_of(rt, alloc, report_path(&ended));
     let netlist = bytes_of(rt, alloc, netlist_path(&ended));
+    let page = second_page(rt, alloc, &ended, input.as_slice());
     let refused = if line.starts_with("refused rules ") {
         refused_rules(alloc, input.as_slice())
     } else {
@@ -117,6 +122,7 @@ pub fn tell_after<R: Files + Eprint + AllocGlobal>(
         schematic: text_of(schematic.as_slice()),
         report: text_of(report.as_slice()),
         netlist: text_of(netlist.as_slice()),
+        page: text_of(page.as_slice()),
         refused: refused.as_slice(),
     };
     let mut text = String::new(alloc);

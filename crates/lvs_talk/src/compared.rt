@@ -2,21 +2,22 @@
 
 use crate::counts::tell_counts;
 use crate::near::beside;
-use crate::netlists::{has_no_device, last_circuit, named, part_count, shows_no_device};
+use crate::netlists::{has_no_device, last_circuit, named, part_count, shows_no_device, unpaired};
 use crate::page::tell_page;
 use crate::rule_faults::RefusedLine;
 use crate::sentence::{NONE, Sentence, say, says};
 use crate::words::{Ended, command_in, word_at};
 use std::alloc::{AllocError, Global};
 
-/// What is looked into to say how a run ended; empty where it isn't looked into. `refused` has the
-/// refused lines of rules.
+/// What is looked into to say how a run ended; empty where it isn't looked into. `page` is that of a
+/// second look at a mismatch, `refused` has the refused lines of rules.
 #[derive(Clone, Copy)]
 pub struct Texts<'a> {
     pub input: &'a [u8],
     pub schematic: &'a str,
     pub report: &'a str,
     pub netlist: &'a str,
+    pub page: &'a str,
     pub refused: &'a [RefusedLine],
 }
 
@@ -78,6 +79,18 @@ fn partner_sentence<'a>(texts: &Texts<'a>) -> Sentence<'a> {
         top,
         last_circuit(texts.schematic).unwrap_or("NAME"),
     )
+}
+
+// A circuit of the schematic that the layout has no cell with devices for.
+fn unpaired_sentence<'a>(alloc: Global, texts: &Texts<'a>) -> Result<Sentence<'a>, AllocError> {
+    match unpaired(alloc, texts.schematic, texts.report)? {
+        None => Ok(NONE),
+        Some(name) => {
+            let pattern =
+                "  circuit @ of the schematic is called, and no cell of that name has a device";
+            Ok(says(pattern, name, "", ""))
+        }
+    }
 }
 
 // A layout without devices.
@@ -190,7 +203,7 @@ fn name_sentence<'a>(
     }
 }
 
-const PAGE: &str = "  lvs view says it by name and place: --page P, and --database P for KLayout";
+const VIEW: &str = "  lvs view writes it by name and place: --page P, and --database P for KLayout";
 
 // What differs, by the report.
 fn tell_difference(alloc: Global, out: &mut String, texts: &Texts<'_>) -> Result<(), AllocError> {
@@ -201,21 +214,29 @@ fn tell_difference(alloc: Global, out: &mut String, texts: &Texts<'_>) -> Result
     say(out, &empty_sentence(texts.netlist))?;
     say(out, &gate_sentence(texts.report))?;
     say(out, &partner_sentence(texts))?;
+    say(out, &unpaired_sentence(alloc, texts)?)?;
+    tell_page(alloc, out, texts.page)?;
     say(out, &apart_sentence(apart))?;
     say(out, &evidence_sentence(apart.lines().nth(1).unwrap_or("")))?;
     say(out, &pair_sentence(pair))?;
     say(out, &evidence_sentence(evidence))?;
     say(out, &name)?;
-    say(out, &says(PAGE, "", "", ""))
+    say(out, &says(VIEW, "", "", ""))
 }
 
-// The first lines of a page, where one was asked for.
-fn tell_evidence(alloc: Global, out: &mut String, page: &str) -> Result<(), AllocError> {
-    if page.is_empty() {
+// The first lines of a page: of a second look, or of the one that was asked for.
+fn tell_evidence(alloc: Global, out: &mut String, texts: &Texts<'_>) -> Result<(), AllocError> {
+    let page = if texts.page.is_empty() {
+        texts.report
+    } else {
+        texts.page
+    };
+    tell_page(alloc, out, page)?;
+    if texts.report.is_empty() {
         let text = "  --page P writes what differs by name and place";
         return say(out, &says(text, "", "", ""));
     }
-    tell_page(alloc, out, page)
+    Ok(())
 }
 
 /// Says what a mismatch is of.
@@ -230,7 +251,7 @@ pub fn tell_mismatch(
         &says("lvs: layout and schematic don't match", "", "", ""),
     )?;
     if command_in(ended.words) == "view" {
-        tell_evidence(alloc, out, texts.report)
+        tell_evidence(alloc, out, texts)
     } else {
         tell_difference(alloc, out, texts)
     }

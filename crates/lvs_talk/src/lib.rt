@@ -8,6 +8,7 @@ mod counts;
 mod heard;
 mod help;
 mod hindrance;
+mod in_place;
 mod near;
 mod netlists;
 mod page;
@@ -28,6 +29,9 @@ pub use compared::Texts;
 pub use heard::Heard;
 pub use help::{add_help, is_command};
 pub use hindrance::{Hindrance, add_line, tell_hindrance};
+pub use in_place::{
+    LAYOUT, PAGE, RULES, SCHEMATIC, is_looked_into, layout_path, look_words, rules_in_place,
+};
 pub use netlists::scale_line;
 pub use rule_faults::{RefusedLine, RuleReader, refused_lines};
 pub use short::{has_progress, is_short, spelt_out, tell_written};

@@ -3,6 +3,7 @@
 use crate::words::word_at;
 use indexmap::IndexSet;
 use std::alloc::{AllocError, Global};
+use std::mem;
 
 // Whether a card of a written netlist is that of a device.
 fn is_device(card: &str) -> bool {
@@ -98,6 +99,63 @@ pub fn scale_line(schematic: &str) -> usize {
         }
     }
     0
+}
+
+// The name of the circuit that a card calls; nothing where it calls none.
+fn called(card: &str) -> &str {
+    match card.trim_start().as_bytes() {
+        [b'X' | b'x', ..] => card.split_whitespace().last().unwrap_or(""),
+        _ => "",
+    }
+}
+
+// Whether a card of a schematic is that of a device.
+fn is_part(card: &str) -> bool {
+    matches!(
+        card.trim_start().as_bytes(),
+        [b'M' | b'R' | b'D' | b'm' | b'r' | b'd', ..]
+    )
+}
+
+// The circuits of a schematic that have a device, in capitals.
+fn with_devices(alloc: Global, schematic: &str) -> Result<IndexSet<String>, AllocError> {
+    let mut names = IndexSet::new(alloc);
+    let mut current = String::new(alloc);
+    for card in schematic.lines() {
+        if word_at(card, 0).eq_ignore_ascii_case(".SUBCKT") {
+            current = word_at(card, 1).to_ascii_uppercase(alloc)?;
+        } else if is_part(card) && !current.is_empty() {
+            names.insert(mem::replace(&mut current, String::new(alloc)))?;
+        }
+    }
+    Ok(names)
+}
+
+// Takes away the circuits of the schematic that a report names.
+fn without_paired(names: &mut IndexSet<String>, report: &str) {
+    for line in report.lines() {
+        if line.starts_with("pair ") || line.starts_with("apart ") {
+            names.swap_remove(word_at(line, 2));
+        }
+    }
+}
+
+/// The first circuit of a schematic that is called there, has a device itself, and is in no pair of
+/// the report. Linear in both.
+pub fn unpaired<'a>(
+    alloc: Global,
+    schematic: &'a str,
+    report: &str,
+) -> Result<Option<&'a str>, AllocError> {
+    let mut names = with_devices(alloc, schematic)?;
+    without_paired(&mut names, report);
+    for card in schematic.lines() {
+        let name = called(card);
+        if names.contains(name.to_ascii_uppercase(alloc)?.as_str()) {
+            return Ok(Some(name));
+        }
+    }
+    Ok(None)
 }
 
 /// How many circuits a written netlist has, and one more.
