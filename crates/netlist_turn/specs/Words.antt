@@ -42,6 +42,20 @@ has_size_option (Word w ∷ ts) = is_size_option w || has_size_option ts
 abbrev pub changes_sizes : List ℕ → List Token → Bool
 changes_sizes first behind = is_option first && has_size_option behind
 
+-- a first word of cards that say what a simulator computes
+abbrev pub is_analysis_word : List ℕ → Bool
+is_analysis_word w =
+    is_text (codes ".TRAN") w || is_text (codes ".AC") w || is_text (codes ".DC") w
+    || is_text (codes ".OP") w || is_text (codes ".NOISE") w || is_text (codes ".FOUR") w
+    || is_text (codes ".IC") w || is_text (codes ".NODESET") w
+
+-- and of cards that say what it tells
+abbrev pub is_output_word : List ℕ → Bool
+is_output_word w =
+    is_text (codes ".SAVE") w || is_text (codes ".PRINT") w || is_text (codes ".PLOT") w
+    || is_text (codes ".PROBE") w || is_text (codes ".MEAS") w || is_text (codes ".MEASURE") w
+    || is_text (codes ".WIDTH") w || is_text (codes ".TITLE") w
+
 -- a first word of cards that say nothing of the netlist, or that were done with before
 abbrev pub is_passed_word : List ℕ → Bool
 is_passed_word w =
@@ -49,7 +63,7 @@ is_passed_word w =
     || is_text (codes ".INC") w
     || is_text (codes ".LIB") w || is_text (codes ".ENDL") w || is_text (codes ".MODEL") w
     || is_option w || is_text (codes ".TEMP") w
-    || is_text (codes ".END") w
+    || is_text (codes ".END") w || is_analysis_word w || is_output_word w
 
 -- M, X, C and R at the beginning, or a whole word
 abbrev pub row_of : List ℕ → Row

@@ -8,7 +8,8 @@ ghost use Rattle.spice_rows.specs.Rows.{begin};
 ghost use Rattle.std.specs.Prelude.{codes};
 ghost use Rattle.spice_rows.specs.Names.{is_text};
 ghost use Rattle.netlist_turn.specs.Words.{is_circuit_end, is_edge_key, is_kept_key, is_none};
-ghost use Rattle.netlist_turn.specs.Words.{is_passed_word, is_size_key};
+ghost use Rattle.netlist_turn.specs.Words.{is_analysis_word, is_output_word, is_passed_word};
+ghost use Rattle.netlist_turn.specs.Words.{is_size_key};
 ghost use Rattle.netlist_turn.specs.Words.{left_out, row_of};
 ghost use Rattle.netlist_turn.specs.Words.{changes_sizes, has_size_option, is_option};
 ghost use Rattle.netlist_turn.specs.Words.{is_size_option};
@@ -90,6 +91,34 @@ pub fn changes_sizes(first: &[u8], behind: &[Token]) -> bool
     is_option(first) && has_size_option(behind)
 }
 
+// A first word of cards that say what a simulator computes.
+fn is_analysis_word(word: &[u8]) -> bool
+    ensures { result ≡ is_analysis_word word.now }
+{
+    is_text(word, b".TRAN")
+        || is_text(word, b".AC")
+        || is_text(word, b".DC")
+        || is_text(word, b".OP")
+        || is_text(word, b".NOISE")
+        || is_text(word, b".FOUR")
+        || is_text(word, b".IC")
+        || is_text(word, b".NODESET")
+}
+
+// And of cards that say what it tells.
+fn is_output_word(word: &[u8]) -> bool
+    ensures { result ≡ is_output_word word.now }
+{
+    is_text(word, b".SAVE")
+        || is_text(word, b".PRINT")
+        || is_text(word, b".PLOT")
+        || is_text(word, b".PROBE")
+        || is_text(word, b".MEAS")
+        || is_text(word, b".MEASURE")
+        || is_text(word, b".WIDTH")
+        || is_text(word, b".TITLE")
+}
+
 fn is_passed_word(word: &[u8]) -> bool
     ensures { result ≡ is_passed_word word.now }
 {
@@ -103,6 +132,8 @@ fn is_passed_word(word: &[u8]) -> bool
         || is_option(word)
         || is_text(word, b".TEMP")
         || is_text(word, b".END")
+        || is_analysis_word(word)
+        || is_output_word(word)
 }
 
 fn begin(word: &[u8]) -> u8
