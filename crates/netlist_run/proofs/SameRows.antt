@@ -224,19 +224,21 @@ record IsPassedBy (circuit ends global passed : Bool) : Type 0 where
 not_so : {A : Type 0} → false ≡ true → A
 not_so h = absurd (let z : ⊥ = cc in z)
 
-passed_by : (a b c d e f g h : Bool)
-    → is_passed_row (if a then turned.Device else if b then turned.Call else if c then turned.Capacitor else if d then turned.Resistor
+passed_by : (a b c d p q e f g h : Bool)
+    → is_passed_row (if a then turned.Device else if b then turned.Call else if c then turned.Capacitor else if d then turned.Resistor else if p then turned.Diode else if q then turned.Foreign
     else if e then turned.Opening else if f then turned.Ending else if g then turned.Plain else if h then turned.Passed else turned.Unknown) ≡ true
     → IsPassedBy e f g h
-passed_by true b c d e f g h is = not_so is
-passed_by false true c d e f g h is = not_so is
-passed_by false false true d e f g h is = not_so is
-passed_by false false false true e f g h is = not_so is
-passed_by false false false false true f g h is = not_so is
-passed_by false false false false false true g h is = not_so is
-passed_by false false false false false false true h is = not_so is
-passed_by false false false false false false false true is = record { circuit_not = refl; ends_not = refl; global_not = refl; passed_so = refl }
-passed_by false false false false false false false false is = not_so is
+passed_by true b c d p q e f g h is = not_so is
+passed_by false true c d p q e f g h is = not_so is
+passed_by false false true d p q e f g h is = not_so is
+passed_by false false false true p q e f g h is = not_so is
+passed_by false false false false true q e f g h is = not_so is
+passed_by false false false false false true e f g h is = not_so is
+passed_by false false false false false false true f g h is = not_so is
+passed_by false false false false false false false true g h is = not_so is
+passed_by false false false false false false false false true h is = not_so is
+passed_by false false false false false false false false false true is = record { circuit_not = refl; ends_not = refl; global_not = refl; passed_so = refl }
+passed_by false false false false false false false false false false is = not_so is
 
 -- such a card is passed over, or ends the text
 abbrev pub IsSilentRow : Bool → Read → Type 0
@@ -283,7 +285,7 @@ pub silent_row : (limit : Option Limits) (n : ℕ) (open_one : Bool) (ts : List 
 silent_row limit n open_one [] h = not_so h
 silent_row limit n open_one (Equals ∷ ts) h = not_so h
 silent_row limit n open_one (Word first ∷ ts) h =
-    let by = passed_by (begin first == 0x4D) (begin first == 0x58) (begin first == 0x43) (begin first == 0x52) (is_text (codes ".SUBCKT") first) (is_text (codes ".ENDS") first) (is_text (codes ".GLOBAL") first)
+    let by = passed_by (begin first == 0x4D) (begin first == 0x58) (begin first == 0x43) (begin first == 0x52) (begin first == 0x44) (begin first == 0x51 || begin first == 0x4C) (is_text (codes ".SUBCKT") first) (is_text (codes ".ENDS") first) (is_text (codes ".GLOBAL") first)
     (is_passed_word first) h in
     let dot = passed_dotted first by.passed_so in
     silent_by (is_passed first) (is_known first) (is_text (codes ".END") first) n (formed_row limit n open_one first (words_of ts) (params_of (behind_words ts)))

@@ -8,7 +8,7 @@ use Rattle.netlist_turn.specs.Words.{row_of}
 use Rattle.netlist_turn.specs.Made.{Made, is_left}
 use Rattle.netlist_turn.specs.Turning.{fate_of, after, left_at, moved, by_fate, plain_taken}
 use Rattle.netlist_turn.specs.declared.rows.Row.{Row}
-use Rattle.netlist_turn.specs.declared.rows.Row.TheVariants.{Device, Call, Opening, Ending, Plain, Passed, Capacitor, Resistor, Unknown, Listed}
+use Rattle.netlist_turn.specs.declared.rows.Row.TheVariants.{Device, Call, Opening, Ending, Plain, Passed, Capacitor, Resistor, Diode, Foreign, Unknown, Listed}
 use Rattle.netlist_turn.specs.declared.made.Where.{Where}
 use Rattle.netlist_turn.specs.declared.turn.Fate.{Fate}
 use Rattle.netlist_turn.specs.declared.settings.Settings.{Settings}
@@ -22,6 +22,8 @@ fate_at s at Plain left = refl
 fate_at s at Passed left = refl
 fate_at s at Capacitor left = refl
 fate_at s at Resistor left = refl
+fate_at s at Diode left = refl
+fate_at s at Foreign left = refl
 fate_at s at Unknown left = refl
 fate_at s at Listed left = refl
 
@@ -34,6 +36,8 @@ after_at at Plain left = refl
 after_at at Passed left = refl
 after_at at Capacitor left = refl
 after_at at Resistor left = refl
+after_at at Diode left = refl
+after_at at Foreign left = refl
 after_at at Unknown left = refl
 after_at at Listed left = refl
 

@@ -8,15 +8,18 @@ ghost use Rattle.netlist_turn.specs.Seen.{seen, SaysFault};
 ghost use Rattle.netlist_turn.specs.Turning.{after, by_fate, card_taken, drops_if, end_fate};
 ghost use Rattle.netlist_turn.specs.Turning.{fate_of, is_opening, is_out, left_at, moved, open_fate};
 ghost use Rattle.netlist_turn.specs.Turning.{device_at, opened, plain_taken, turned, turning};
-ghost use Rattle.netlist_turn.specs.Turning.{word_taken};
+ghost use Rattle.netlist_turn.specs.Turning.{first_taken, is_dropped, is_marked, is_sought};
+ghost use Rattle.netlist_turn.specs.Turning.{is_unclear, word_taken};
 ghost use Rattle.std.specs.Option.{option_copied};
 
-use crate::device::Device;
+use crate::device::{Device, word_at};
 use crate::fault::TurnFault;
-use crate::listed::{called_device, take_device};
+use crate::listed::{called_device, may_be_listed, take_device};
 use crate::made::{Head, Kind, Turned, Where};
+use crate::marked::{has_marks, order};
 use crate::rows::{Row, changes_sizes, row_of};
 use crate::settings::{Settings, has_shadow, has_stuck, is_left};
+use crate::words::is_number;
 use spice_cards::{CardReader, Token, read_params, read_words};
 use std::alloc::{AllocError, Global};
 
@@ -76,7 +79,9 @@ fn fate_of(settings: &Settings, at: Where, row: Row, left: bool) -> Fate
         Row::Plain => Fate::Keeps,
         Row::Passed => Fate::Drops,
         Row::Capacitor => drops_if(out || settings.capacitors, Fate::Refuses),
-        Row::Resistor => drops_if(out || settings.resistors, Fate::Refuses),
+        Row::Resistor => drops_if(out || settings.resistors, Fate::Keeps),
+        Row::Diode => drops_if(out, Fate::Keeps),
+        Row::Foreign => drops_if(out, Fate::Refuses),
         Row::Unknown => drops_if(out, Fate::Refuses),
         Row::Listed => Fate::Refuses,
     }
@@ -89,6 +94,16 @@ fn after(at: Where, row: Row, left: bool) -> Where
         Row::Opening => { if left { Where::Left } else { Where::Kept } }
         Row::Ending => Where::Outside,
         _ => at,
+    }
+}
+
+// Whether a resistor's third word is a number, so that it may be its bulk or its value.
+fn is_unclear(row: Row, words: &[&[u8]]) -> bool
+    ensures { result ≡ is_unclear row (words_seen words.now) }
+{
+    match row {
+        Row::Resistor => is_number(word_at(words, 2)),
+        _ => false,
     }
 }
 
@@ -133,6 +148,9 @@ fn take_by_fate<'a>(
             if is_opening(row) && has_shadow(alloc, settings, &params)? {
                 return Err(TurnFault::Shadowed(line));
             }
+            if is_unclear(row, &words) {
+                return Err(TurnFault::UnknownCard(line));
+            }
             if has_stuck(alloc, settings, row, &params)? {
                 return Err(TurnFault::Unscaled(line));
             }
@@ -167,7 +185,20 @@ fn left_of(alloc: Global, settings: &Settings, tokens: &[Token]) -> Result<bool,
     is_left(alloc, settings, &words)
 }
 
-// What a card of this row calls, where it is a listed name, and the card isn't left out.
+fn is_dropped(fate: Fate) -> bool
+    ensures { result ≡ is_dropped fate }
+{
+    matches!(fate, Fate::Drops)
+}
+
+// Whether a card isn't left out, and may be of a listed name.
+fn is_sought(settings: &Settings, at: Where, row: Row) -> bool
+    ensures { result ≡ is_sought settings.now at row }
+{
+    may_be_listed(row) && !is_dropped(fate_of(settings, at, row, false))
+}
+
+// What a card of this row is listed as, where it isn't left out.
 #[tactic(auto, using(crate::proofs::TakenLemmas::no_devices))]
 fn device_at<'a>(
     alloc: Global,
@@ -179,15 +210,10 @@ fn device_at<'a>(
     ensures { IfOk result (λ d. option_copied d
         ≡ device_at settings.now at row (tokens_seen tokens.now)) }
 {
-    match row {
-        Row::Call => {
-            if is_out(settings, at) || settings.devices.len() == 0 {
-                return Ok(None);
-            }
-            called_device(alloc, settings, tokens)
-        }
-        _ => Ok(None),
+    if settings.devices.len() == 0 || !is_sought(settings, at, row) {
+        return Ok(None);
     }
+    called_device(alloc, settings, row, tokens)
 }
 
 // Takes a card of this first word and the tokens behind it.
@@ -204,13 +230,17 @@ fn take_word<'a>(
     ensures fault { IfErr result (λ e. SaysFault e (word_taken settings.now (seen made.old) line
         first.now (tokens_seen behind.now))) }
 {
-    match device_at(alloc, settings, made.at, row_of(first), behind)? {
-        Some(device) => take_device(alloc, settings, made, line, first, device, behind),
+    let row = row_of(first);
+    match device_at(alloc, settings, made.at, row, behind)? {
+        Some(device) => {
+            let head = Head { line, row, first };
+            take_device(alloc, settings, made, head, device, behind)
+        }
         None => take_plain(alloc, settings, made, line, first, behind),
     }
 }
 
-// Takes a card of this first word and the tokens behind it, which calls no listed name.
+// Takes a card of this first word and the tokens behind it, which is of no listed name.
 fn take_plain<'a>(
     alloc: Global,
     settings: &'a Settings,
@@ -232,6 +262,38 @@ fn take_plain<'a>(
     take_by_fate(alloc, settings, made, head, behind, fate)
 }
 
+// Whether `$` marks something on a card that isn't left out, and is no call.
+fn is_marked(settings: &Settings, at: Where, row: Row, tokens: &[Token]) -> bool
+    ensures { result ≡ is_marked settings.now at row (tokens_seen tokens.now) }
+{
+    match row {
+        Row::Call => false,
+        _ => is_sought(settings, at, row) && has_marks(tokens),
+    }
+}
+
+// Takes a card of this first word and the tokens behind it, in the order of other cards.
+fn take_first<'a>(
+    alloc: Global,
+    settings: &'a Settings,
+    made: &mut Turned<'a>,
+    line: u64,
+    first: &'a [u8],
+    behind: &[Token<'a>],
+) -> Result<(), TurnFault>
+    ensures made { OnOk result (first_taken settings.now (seen made.old) line first.now
+        (tokens_seen behind.now) ≡ Ok (seen made.new)) }
+    ensures fault { IfErr result (λ e. SaysFault e (first_taken settings.now (seen made.old) line
+        first.now (tokens_seen behind.now))) }
+{
+    let row = row_of(first);
+    if !is_marked(settings, made.at, row, behind) {
+        return take_word(alloc, settings, made, line, first, behind);
+    }
+    let tokens = order(alloc, made, Head { line, row, first }, behind)?;
+    take_word(alloc, settings, made, line, first, &tokens)
+}
+
 // Takes a card.
 fn take_card<'a>(
     alloc: Global,
@@ -247,7 +309,7 @@ fn take_card<'a>(
 {
     match tokens {
         [Token::Word(first), behind @ ..] => {
-            take_word(alloc, settings, made, line, *first, behind)
+            take_first(alloc, settings, made, line, *first, behind)
         }
         _ => Err(TurnFault::UnknownCard(line)),
     }
