@@ -11,7 +11,8 @@ use Rattle.netlist_join.specs.declared.join.Origin.{Origin}
 use Rattle.netlist_turn.specs.Made.{Told}
 use Rattle.netlist_turn.specs.declared.made.Kind.{Kind}
 use Rattle.netlist_turn.specs.declared.made.Kind.TheVariants.{Card, Parameter, Slash, Params}
-use Rattle.netlist_turn.specs.declared.made.Kind.TheVariants.{Value, Quotes, Name, Number, Marked, Size, Device}
+use Rattle.netlist_turn.specs.declared.made.Kind.TheVariants.{Value, Quotes, Name, Number}
+use Rattle.netlist_turn.specs.declared.made.Kind.TheVariants.{Marked, Size, Device}
 use Rattle.netlist_turn.specs.Scale.{micro_text}
 use Rattle.netlist_run.specs.Places.{place_text, origin_of}
 

@@ -159,7 +159,7 @@ fn push_others<'a>(out: &mut Vec<Token<'a>>, tokens: &[Token<'a>]) -> Result<(),
     ensures { OnOk result (tokens_seen out.new.items
         ≡ tokens_seen out.old.items ++ others 0 (tokens_seen tokens.now)) }
 {
-    let mut passed = 0;
+    let mut passed = 0usize;
     let mut rest = tokens;
     'tokens: while let [token, more @ ..] = rest {
         if passed > 0 {

@@ -1,10 +1,11 @@
 //! Sizes by the scale of a text, exactly, and how they are written.
 
-ghost use Rattle.std.specs.Prelude.{◌≡◌, ◌∷◌, [], ◌++◌, ◌*◌, ◌+◌, ◌≤◌, ◌^◌, OnOk, Ok, Some};
+ghost use Rattle.std.specs.Prelude.{◌≡◌, ◌∷◌, [], ◌++◌, ◌*◌, ◌^◌, OnOk, Some, drop};
 ghost use Rattle.spice_rows.specs.Sizes.{area_of, settled, value_of};
 ghost use Rattle.spice_rows.specs.Seen.{value_seen};
-ghost use Rattle.netlist_turn.specs.Scale.{is_unscaled, micro_text, places_text, scale_of, scaled};
+ghost use Rattle.netlist_turn.specs.Scale.{is_unscaled, micro_text, pico_text, scale_of, scaled};
 ghost use Rattle.netlist_turn.specs.Scale.{scaled_area, scaled_length, size_text};
+ghost use Rattle.std.specs.Fmt.{decimal};
 
 use fixed_num::{Femto, ValueFault, parse_area, parse_value};
 use std::alloc::{AllocError, Global};
@@ -124,20 +125,19 @@ pub fn is_unscaled(factor: Option<Factor>, text: &[u8]) -> bool
     }
 }
 
-// Adds so many over ten to a number of places, and a suffix.
-fn push_places(
+// Adds a number, a point, the digits behind the first of another, and a suffix.
+fn push_decimal(
     alloc: Global,
     out: &mut Vec<u8>,
-    places: u32,
+    whole: u128,
+    places: u128,
     suffix: u8,
-    n: u128,
 ) -> Result<(), AllocError>
-    requires { places ≤ 12 }
-    ensures { OnOk result (out.new.items ≡ out.old.items ++ places_text places (suffix ∷ []) n) }
+    ensures { OnOk result (out.new.items ≡ out.old.items
+        ++ (decimal whole ++ (0x2E ∷ (drop 1 (decimal places) ++ suffix ∷ [])))) }
 {
-    let one = 10u128.pow(places);
-    let whole = (n / one).to_string(alloc)?;
-    let places = (one + n % one).to_string(alloc)?;
+    let whole = whole.to_string(alloc)?;
+    let places = places.to_string(alloc)?;
     let digits = places.as_bytes();
     out.extend_from_slice(whole.as_bytes())?;
     out.push(b'.')?;
@@ -152,7 +152,16 @@ fn push_places(
 pub fn push_micros(alloc: Global, out: &mut Vec<u8>, n: u128) -> Result<(), AllocError>
     ensures { OnOk result (out.new.items ≡ out.old.items ++ micro_text n) }
 {
-    push_places(alloc, out, 9, b'U', n)
+    let micro = 1_000_000_000u128;
+    push_decimal(alloc, out, n / micro, micro + n % micro, b'U')
+}
+
+// Adds square picometres, in square micrometres.
+fn push_picos(alloc: Global, out: &mut Vec<u8>, n: u128) -> Result<(), AllocError>
+    ensures { OnOk result (out.new.items ≡ out.old.items ++ pico_text n) }
+{
+    let pico = 1_000_000_000_000u128;
+    push_decimal(alloc, out, n / pico, pico + n % pico, b'P')
 }
 
 /// Adds femtometres in micrometres, or square picometres in square micrometres.
@@ -165,7 +174,7 @@ pub fn push_size(
     ensures { OnOk result (out.new.items ≡ out.old.items ++ size_text factor n) }
 {
     if factor.is_twice {
-        push_places(alloc, out, 12, b'P', n)
+        push_picos(alloc, out, n)
     } else {
         push_micros(alloc, out, n)
     }
