@@ -12,7 +12,7 @@ use Rattle.netlist_turn.specs.CardLaw.{kept_words, param_tokens, params_text, tu
 use Rattle.netlist_turn.specs.KeptLaw.{IsQuiet, IsWhole, KeptCardsLaw, KeptStartLaw, is_passed_row, is_silent, saying, tokens_in}
 use Rattle.netlist_turn.specs.Made.{Made, card_made, has_shadow, has_stuck, is_left, telling}
 use Rattle.netlist_turn.specs.Marked.{marks_told, ordered, unmarked}
-use Rattle.netlist_turn.specs.Turning.{after, and_then, by_device, by_fate, card_taken, device_at, drops_if, early_or, end_fate, fate_of, first_taken, is_marked, is_opening, is_out, is_sought, is_unclear, kept_card, moved, nothing, open_fate, opened, plain_taken, turned, turning, word_taken}
+use Rattle.netlist_turn.specs.Turning.{after, and_then, by_device, by_fate, card_taken, device_at, drops_if, early_or, end_fate, fate_of, first_taken, is_marked, is_opening, is_out, is_sought, is_unclear, kept_card, moved, nothing, open_fate, opened, ordered_taken, plain_taken, row_taken, turned, turning}
 use Rattle.netlist_turn.specs.Listed.{device_for, dropped, model_of, words_told}
 use Rattle.netlist_turn.specs.declared.device.Device.{Device as ListedDevice}
 use Rattle.netlist_turn.specs.Words.{changes_sizes, first_name, has_escape, left_out, row_of}
@@ -243,10 +243,10 @@ plain_step s m line first ts k whole inside h =
     step_by row m.at s (moved at m) line first ts k refl (after_in m.at row left (left_none s (words_of ts) whole) inside) (ap (λ (f : Fate). by_fate s row (moved at m) line first ts f) (sym fate) ∙ h) in
     record { inside = step.inside; quiet = step.quiet; makes = step.makes }
 
-word_step : (s : Settings) (m : Made) (line : ℕ) (first : List ℕ) (ts : List Token) (k : Made) → IsWhole s → IsIn m.at → word_taken s m line first ts ≡ Ok k
+word_step : (s : Settings) (m : Made) (line : ℕ) (first : List ℕ) (ts : List Token) (k : Made) → IsWhole s → IsIn m.at → row_taken s (row_of first) m line first ts ≡ Ok k
     → IsStep m (Word first ∷ ts) k
 word_step s m line first ts k whole inside h =
-    let plain : word_taken s m line first ts ≡ plain_taken s m line first ts = ap (λ (o : Option ListedDevice). by_device s m line first ts o) (no_device s m.at (row_of first) ts whole) in
+    let plain : row_taken s (row_of first) m line first ts ≡ plain_taken s m line first ts = ap (λ (o : Option ListedDevice). by_device s (row_of first) m line first ts o) (no_device s m.at (row_of first) ts whole) in
     plain_step s m line first ts k whole inside (sym plain ∙ h)
 
 -- what `$` marks is told
@@ -260,18 +260,18 @@ told_words_at row m line (w ∷ ws) = told_words_at row (dropped m line w (left_
 
 abbrev marked_or : Bool → Settings → Made → ℕ → List ℕ → List Token → Result Made TurnFault
 marked_or b s m line first ts =
-    if b then word_taken s (marks_told (row_of first) m line first ts) line first (ordered (row_of first) ts) else word_taken s m line first ts
+    if b then ordered_taken s (row_of first) m line first ts else row_taken s (row_of first) m line first ts
 
 marked_at : (row : Row) (m : Made) (line : ℕ) (first : List ℕ) (ts : List Token) → (marks_told row m line first ts).at ≡ m.at
 marked_at row m line first ts = told_words_at row m line (unmarked (words_of ts))
 
 marked_step : (s : Settings) (m : Made) (line : ℕ) (first : List ℕ) (ts : List Token) (k : Made) → IsWhole s → IsIn m.at
-    → first_taken s m line first ts ≡ Ok k → (b : Bool) → is_marked s m.at (row_of first) ts ≡ b → IsStep m (Word first ∷ ts) k
+    → first_taken s (row_of first) m line first ts ≡ Ok k → (b : Bool) → is_marked s m.at (row_of first) ts ≡ b → IsStep m (Word first ∷ ts) k
 marked_step s m line first ts k whole inside h false e =
     word_step s m line first ts k whole inside (sym (ap (λ (b : Bool). marked_or b s m line first ts) e) ∙ h)
 marked_step s m line first ts k whole inside h true e =
     let told : Made = marks_told (row_of first) m line first ts in
-    let taken : word_taken s told line first (ordered (row_of first) ts) ≡ Ok k = sym (ap (λ (b : Bool). marked_or b s m line first ts) e) ∙ h in
+    let taken : row_taken s (row_of first) told line first (ordered (row_of first) ts) ≡ Ok k = sym (ap (λ (b : Bool). marked_or b s m line first ts) e) ∙ h in
     let step = word_step s told line first (ordered (row_of first) ts) k whole (subst IsIn (sym (marked_at (row_of first) m line first ts)) inside) taken in
     record {
       inside = step.inside;

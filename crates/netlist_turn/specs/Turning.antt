@@ -119,15 +119,21 @@ device_said s row kind d m line first words ps =
     if has_stuck s Listed (device_params kind d.keys ps) then Err (Unscaled line)
     else Ok (device_made s row kind d m line first words ps)
 
+-- with as many nets as the list says, and one number of devices
+abbrev pub device_netted : Settings → Row → DeviceKind → Device → Made → ℕ → List ℕ
+    → List (List ℕ) → List Param → Result Made TurnFault
+device_netted s row kind d m line first words ps =
+    if not (has_nets row d (kept_words row words)) then Err (DeviceNets line)
+    else if has_odd_count s d.keys ps then Err (OddCount line)
+    else device_said s row kind d m line first words ps
+
 -- a card of a listed name: left out, or a card of the kind, whose letter it has, where it is no call
 abbrev pub device_by : Settings → Row → Device → Made → ℕ → List ℕ → List (List ℕ) → List Param
     → Option DeviceKind → Result Made TurnFault
 device_by s row d m line first words ps None = Ok (telling m line CardKind first)
 device_by s row d m line first words ps (Some kind) =
     if is_of_other row kind first then Err (UnknownCard line)
-    else if not (has_nets row d (kept_words row words)) then Err (DeviceNets line)
-    else if has_odd_count s d.keys ps then Err (OddCount line)
-    else device_said s row kind d m line first words ps
+    else device_netted s row kind d m line first words ps
 
 abbrev pub device_card : Settings → Row → Device → Made → ℕ → List ℕ → List (List ℕ)
     → Option (List Param) → Result Made TurnFault
@@ -152,15 +158,14 @@ abbrev pub device_at : Settings → Where → Row → List Token → Option List
 device_at s at row ts =
     if is_sought s at row then device_for s (model_of row (kept_words row (words_of ts))) else None
 
-abbrev pub by_device : Settings → Made → ℕ → List ℕ → List Token → Option ListedDevice
+abbrev pub by_device : Settings → Row → Made → ℕ → List ℕ → List Token → Option ListedDevice
     → Result Made TurnFault
-by_device s m line first ts None = plain_taken s m line first ts
-by_device s m line first ts (Some d) =
-    device_taken s (row_of first) (device_seen d) m line first ts
+by_device s row m line first ts None = plain_taken s m line first ts
+by_device s row m line first ts (Some d) = device_taken s row (device_seen d) m line first ts
 
--- what one card more makes, of this first word and the tokens behind it
-abbrev pub word_taken : Settings → Made → ℕ → List ℕ → List Token → Result Made TurnFault
-word_taken s m line first ts = by_device s m line first ts (device_at s m.at (row_of first) ts)
+-- what one card more makes, of this row and first word, and the tokens behind it
+abbrev pub row_taken : Settings → Row → Made → ℕ → List ℕ → List Token → Result Made TurnFault
+row_taken s row m line first ts = by_device s row m line first ts (device_at s m.at row ts)
 
 -- `$` marks something on a card that isn't left out, and is no call
 abbrev pub is_marked : Settings → Where → Row → List Token → Bool
@@ -168,18 +173,20 @@ is_marked s at Call ts = false
 is_marked s at row ts = is_sought s at row && has_marks ts
 
 -- what one card more makes, in the order of other cards
-abbrev pub first_taken : Settings → Made → ℕ → List ℕ → List Token → Result Made TurnFault
-first_taken s m line first ts =
-    if is_marked s m.at (row_of first) ts
-    then word_taken s (marks_told (row_of first) m line first ts) line first
-    (ordered (row_of first) ts)
-    else word_taken s m line first ts
+abbrev pub ordered_taken : Settings → Row → Made → ℕ → List ℕ → List Token → Result Made TurnFault
+ordered_taken s row m line first ts =
+    row_taken s row (marks_told row m line first ts) line first (ordered row ts)
+
+abbrev pub first_taken : Settings → Row → Made → ℕ → List ℕ → List Token → Result Made TurnFault
+first_taken s row m line first ts =
+    if is_marked s m.at row ts then ordered_taken s row m line first ts
+    else row_taken s row m line first ts
 
 -- what one card more makes: it begins with a word
 abbrev pub card_taken : Settings → Made → ℕ → List Token → Result Made TurnFault
 card_taken s m line [] = Err (UnknownCard line)
 card_taken s m line (Equals ∷ ts) = Err (UnknownCard line)
-card_taken s m line (Word first ∷ ts) = first_taken s m line first ts
+card_taken s m line (Word first ∷ ts) = first_taken s (row_of first) m line first ts
 
 abbrev pub and_then : Result Made TurnFault → (Made → Result Made TurnFault) → Result Made TurnFault
 and_then (Ok m) rest = rest m

@@ -14,7 +14,7 @@ ghost use Rattle.netlist_turn.specs.Listed.{has_nets, has_number, is_of_other, m
 ghost use Rattle.netlist_turn.specs.Listed.{model_of, number_told, params_told, prefix, words_told};
 ghost use Rattle.netlist_turn.specs.Made.{writing};
 ghost use Rattle.netlist_turn.specs.Seen.{seen, SaysFault};
-ghost use Rattle.netlist_turn.specs.Turning.{device_by, device_said, device_taken};
+ghost use Rattle.netlist_turn.specs.Turning.{device_by, device_netted, device_said, device_taken};
 
 use crate::device::{
     Device, Key, called_name, device_params, device_words, is_written, key_of, stands_for, word_at,
@@ -375,9 +375,9 @@ fn take_said<'a>(
     Ok(())
 }
 
-// Takes a card of a device of this kind.
+// Takes a card of a device of this kind, whose letter it has.
 #[tactic(auto, using(crate::proofs::DeviceLemmas::words_long))]
-fn take_kind<'a>(
+fn take_netted<'a>(
     alloc: Global,
     settings: &'a Settings,
     made: &mut Turned<'a>,
@@ -387,17 +387,14 @@ fn take_kind<'a>(
     words: &[&'a [u8]],
     params: &[Param<'a>],
 ) -> Result<(), TurnFault>
-    ensures made { OnOk result (device_by settings.now head.entry.row (device_seen device.now)
-        (seen made.old) head.entry.line head.entry.first.now (words_seen words.now) (params_seen params.now)
-        (Some kind) ≡ Ok (seen made.new)) }
-    ensures fault { IfErr result (λ e. SaysFault e (device_by settings.now head.entry.row
-        (device_seen device.now) (seen made.old) head.entry.line head.entry.first.now (words_seen words.now)
-        (params_seen params.now) (Some kind))) }
+    ensures made { OnOk result (device_netted settings.now head.entry.row kind (device_seen device.now)
+        (seen made.old) head.entry.line head.entry.first.now (words_seen words.now)
+        (params_seen params.now) ≡ Ok (seen made.new)) }
+    ensures fault { IfErr result (λ e. SaysFault e (device_netted settings.now head.entry.row
+        kind (device_seen device.now) (seen made.old) head.entry.line head.entry.first.now
+        (words_seen words.now) (params_seen params.now))) }
 {
     let keys = device.keys.as_slice();
-    if is_of_other(head.row, kind, head.first) {
-        return Err(TurnFault::UnknownCard(head.line));
-    }
     let kept = kept_words(alloc, head.row, words)?;
     if !has_nets(head.row, device, &kept) {
         return Err(TurnFault::DeviceNets(head.line));
@@ -409,6 +406,30 @@ fn take_kind<'a>(
     take_said(
         alloc, settings, made, head, kind, device, words, &kept, params, &said,
     )
+}
+
+// Takes a card of a device of this kind.
+fn take_kind<'a>(
+    alloc: Global,
+    settings: &'a Settings,
+    made: &mut Turned<'a>,
+    head: Head<'a>,
+    kind: DeviceKind,
+    device: &'a Device,
+    words: &[&'a [u8]],
+    params: &[Param<'a>],
+) -> Result<(), TurnFault>
+    ensures made { OnOk result (device_by settings.now head.entry.row (device_seen device.now)
+        (seen made.old) head.entry.line head.entry.first.now (words_seen words.now)
+        (params_seen params.now) (Some kind) ≡ Ok (seen made.new)) }
+    ensures fault { IfErr result (λ e. SaysFault e (device_by settings.now head.entry.row
+        (device_seen device.now) (seen made.old) head.entry.line head.entry.first.now
+        (words_seen words.now) (params_seen params.now) (Some kind))) }
+{
+    if is_of_other(head.row, kind, head.first) {
+        return Err(TurnFault::UnknownCard(head.line));
+    }
+    take_netted(alloc, settings, made, head, kind, device, words, params)
 }
 
 /// Takes a card of a listed name, which begins so, and of which these tokens stand behind its first

@@ -9,7 +9,8 @@ ghost use Rattle.netlist_turn.specs.Turning.{after, by_fate, card_taken, drops_i
 ghost use Rattle.netlist_turn.specs.Turning.{fate_of, is_opening, is_out, left_at, moved, open_fate};
 ghost use Rattle.netlist_turn.specs.Turning.{device_at, opened, plain_taken, turned, turning};
 ghost use Rattle.netlist_turn.specs.Turning.{first_taken, is_dropped, is_marked, is_sought};
-ghost use Rattle.netlist_turn.specs.Turning.{is_unclear, word_taken};
+ghost use Rattle.netlist_turn.specs.Turning.{is_unclear, ordered_taken, row_taken};
+ghost use Rattle.netlist_turn.specs.Words.{row_of};
 ghost use Rattle.std.specs.Option.{option_copied};
 
 use crate::device::{Device, word_at};
@@ -216,27 +217,22 @@ fn device_at<'a>(
     called_device(alloc, settings, row, tokens)
 }
 
-// Takes a card of this first word and the tokens behind it.
-fn take_word<'a>(
+// Takes a card that begins so, and the tokens behind its first word.
+fn take_row<'a>(
     alloc: Global,
     settings: &'a Settings,
     made: &mut Turned<'a>,
-    line: u64,
-    first: &'a [u8],
+    head: Head<'a>,
     behind: &[Token<'a>],
 ) -> Result<(), TurnFault>
-    ensures made { OnOk result (word_taken settings.now (seen made.old) line first.now
-        (tokens_seen behind.now) ≡ Ok (seen made.new)) }
-    ensures fault { IfErr result (λ e. SaysFault e (word_taken settings.now (seen made.old) line
-        first.now (tokens_seen behind.now))) }
+    ensures made { OnOk result (row_taken settings.now head.entry.row (seen made.old)
+        head.entry.line head.entry.first.now (tokens_seen behind.now) ≡ Ok (seen made.new)) }
+    ensures fault { IfErr result (λ e. SaysFault e (row_taken settings.now head.entry.row
+        (seen made.old) head.entry.line head.entry.first.now (tokens_seen behind.now))) }
 {
-    let row = row_of(first);
-    match device_at(alloc, settings, made.at, row, behind)? {
-        Some(device) => {
-            let head = Head { line, row, first };
-            take_device(alloc, settings, made, head, device, behind)
-        }
-        None => take_plain(alloc, settings, made, line, first, behind),
+    match device_at(alloc, settings, made.at, head.row, behind)? {
+        Some(device) => take_device(alloc, settings, made, head, device, behind),
+        None => take_plain(alloc, settings, made, head.line, head.first, behind),
     }
 }
 
@@ -272,8 +268,45 @@ fn is_marked(settings: &Settings, at: Where, row: Row, tokens: &[Token]) -> bool
     }
 }
 
-// Takes a card of this first word and the tokens behind it, in the order of other cards.
+// Takes a card on which `$` marks something.
+#[tactic(auto, using(crate::proofs::TakenLemmas::ordered_is))]
+fn take_ordered<'a>(
+    alloc: Global,
+    settings: &'a Settings,
+    made: &mut Turned<'a>,
+    head: Head<'a>,
+    behind: &[Token<'a>],
+) -> Result<(), TurnFault>
+    ensures made { OnOk result (ordered_taken settings.now head.entry.row (seen made.old)
+        head.entry.line head.entry.first.now (tokens_seen behind.now) ≡ Ok (seen made.new)) }
+    ensures fault { IfErr result (λ e. SaysFault e (ordered_taken settings.now head.entry.row
+        (seen made.old) head.entry.line head.entry.first.now (tokens_seen behind.now))) }
+{
+    let tokens = order(alloc, made, head, behind)?;
+    take_row(alloc, settings, made, head, &tokens)
+}
+
+// Takes a card that begins so, in the order of other cards.
 fn take_first<'a>(
+    alloc: Global,
+    settings: &'a Settings,
+    made: &mut Turned<'a>,
+    head: Head<'a>,
+    behind: &[Token<'a>],
+) -> Result<(), TurnFault>
+    ensures made { OnOk result (first_taken settings.now head.entry.row (seen made.old)
+        head.entry.line head.entry.first.now (tokens_seen behind.now) ≡ Ok (seen made.new)) }
+    ensures fault { IfErr result (λ e. SaysFault e (first_taken settings.now head.entry.row
+        (seen made.old) head.entry.line head.entry.first.now (tokens_seen behind.now))) }
+{
+    if is_marked(settings, made.at, head.row, behind) {
+        return take_ordered(alloc, settings, made, head, behind);
+    }
+    take_row(alloc, settings, made, head, behind)
+}
+
+// Takes a card of this first word and the tokens behind it.
+fn take_word<'a>(
     alloc: Global,
     settings: &'a Settings,
     made: &mut Turned<'a>,
@@ -281,17 +314,13 @@ fn take_first<'a>(
     first: &'a [u8],
     behind: &[Token<'a>],
 ) -> Result<(), TurnFault>
-    ensures made { OnOk result (first_taken settings.now (seen made.old) line first.now
-        (tokens_seen behind.now) ≡ Ok (seen made.new)) }
-    ensures fault { IfErr result (λ e. SaysFault e (first_taken settings.now (seen made.old) line
-        first.now (tokens_seen behind.now))) }
+    ensures made { OnOk result (first_taken settings.now (row_of first.now) (seen made.old) line
+        first.now (tokens_seen behind.now) ≡ Ok (seen made.new)) }
+    ensures fault { IfErr result (λ e. SaysFault e (first_taken settings.now (row_of first.now)
+        (seen made.old) line first.now (tokens_seen behind.now))) }
 {
     let row = row_of(first);
-    if !is_marked(settings, made.at, row, behind) {
-        return take_word(alloc, settings, made, line, first, behind);
-    }
-    let tokens = order(alloc, made, Head { line, row, first }, behind)?;
-    take_word(alloc, settings, made, line, first, &tokens)
+    take_first(alloc, settings, made, Head { line, row, first }, behind)
 }
 
 // Takes a card.
@@ -309,7 +338,7 @@ fn take_card<'a>(
 {
     match tokens {
         [Token::Word(first), behind @ ..] => {
-            take_first(alloc, settings, made, line, *first, behind)
+            take_word(alloc, settings, made, line, *first, behind)
         }
         _ => Err(TurnFault::UnknownCard(line)),
     }
