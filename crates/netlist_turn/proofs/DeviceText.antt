@@ -8,7 +8,7 @@ use Rattle.std.proofs.lemmas.List.Elements.{All-cons}
 use Rattle.plain_netlist.specs.declared.kinds.DeviceKind.{DeviceKind}
 use Rattle.plain_netlist.specs.declared.kinds.DeviceKind.TheVariants.{Mos4, ResistorWithBulk, Diode}
 use Rattle.spice_cards.specs.Parts.{Param, begins_equals, behind_words, onto, params_of, words_of}
-use Rattle.spice_cards.specs.Tokens.{Token, Word, Equals, tokens_of}
+use Rattle.spice_cards.specs.Tokens.{Token, Word, tokens_of}
 use Rattle.spice_rows.specs.Kinds.{letter}
 use Rattle.spice_rows.specs.Names.{is_text, names_of}
 use Rattle.spice_rows.specs.Rows.{CardRow, Passed, begin, call_row, card_row, device_row, end_row, formed_row, global_row, is_known, is_passed, open_row, stop_row}

@@ -1,5 +1,5 @@
 -- What a card makes, by its row, its fate and where the next stands.
-use Rattle.std.proofs.Common.{◌≡◌, ℕ, Bool, List, [], ◌∷◌, length, Option, None, arith, refl, ap, ◌∙◌}
+use Rattle.std.proofs.Common.{◌≡◌, ℕ, Bool, List, [], ◌∷◌, length, None, arith, refl, ap, ◌∙◌}
 use Rattle.std.specs.Prelude.{slice_get}
 use Rattle.spice_cards.specs.Parts.{words_of}
 use Rattle.spice_cards.specs.Tokens.{Token}

@@ -1,5 +1,5 @@
 -- Cards on which `$` marks the model, the bulk and the sizes, in the order of other cards.
-use Rattle.std.specs.Prelude.{ℕ, zero, suc, ◌-◌, ◌==◌, ◌&&◌, ◌||◌, nat_lt, Bool, true, false}
+use Rattle.std.specs.Prelude.{ℕ, zero, suc, ◌-◌, ◌==◌, ◌&&◌, ◌||◌, nat_lt, Bool, false}
 use Rattle.std.specs.Prelude.{List, [], ◌∷◌, ◌++◌, length, map, slice_index, slice_range, codes}
 use Rattle.std.specs.Prelude.{if◌then◌else◌}
 use Rattle.spice_cards.specs.Parts.{behind_words, words_of}
