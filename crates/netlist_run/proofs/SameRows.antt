@@ -19,7 +19,7 @@ use Rattle.spice_rows.specs.declared.fault.SpiceFault.{SpiceFault}
 use Rattle.spice_rows.specs.declared.fault.SpiceFault.TheVariants.{BadLine, ParameterRefused, UnknownCard}
 use Rattle.netlist_turn.specs.KeptLaw.{is_passed_row, is_silent}
 use Rattle.netlist_turn.specs.declared.rows.Row.TheVariants as turned
-use Rattle.netlist_turn.specs.Words.{is_option, is_passed_word}
+use Rattle.netlist_turn.specs.Words.{is_analysis_word, is_option, is_output_word, is_passed_word}
 use Rattle.netlist_run.specs.Kept.{is_end}
 
 abbrev Read : Type 0
@@ -152,6 +152,35 @@ dotted : (text w : List ℕ) → is_text (0x2E ∷ text) w ≡ true → begin w 
 dotted text [] h = let f : false ≡ true = h in absurd (let z : ⊥ = cc in z)
 dotted text (b ∷ w) h = eqb-true (folded_byte b) 0x2E (and_first (folded_byte b == 0x2E) (bytes_eq (folded_bytes w) text) h)
 
+dotted_one : (texts : List (List ℕ)) (w : List ℕ) → list_any (λ text. is_text (0x2E ∷ text) w) texts ≡ true → begin w ≡ 0x2E
+dotted_one [] w h = let f : false ≡ true = h in absurd (let z : ⊥ = cc in z)
+dotted_one (text ∷ texts) w h =
+    or_case (is_text (0x2E ∷ text) w) (list_any (λ text. is_text (0x2E ∷ text) w) texts) h (dotted text w) (dotted_one texts w)
+
+-- eight words, of which it is one
+eight : (a b c d e f g h : Bool) → (a || b || c || d || e || f || g || h) ≡ true → (a || (b || (c || (d || (e || (f || (g || (h || false)))))))) ≡ true
+eight true b c d e f g h k = refl
+eight false true c d e f g h k = refl
+eight false false true d e f g h k = refl
+eight false false false true e f g h k = refl
+eight false false false false true f g h k = refl
+eight false false false false false true g h k = refl
+eight false false false false false false true h k = refl
+eight false false false false false false false true k = refl
+eight false false false false false false false false k = k
+
+analysis_dotted : (w : List ℕ) → is_analysis_word w ≡ true → begin w ≡ 0x2E
+analysis_dotted w h =
+    let t : List ℕ → Bool = λ text. is_text text w in
+    dotted_one (codes "TRAN" ∷ codes "AC" ∷ codes "DC" ∷ codes "OP" ∷ codes "NOISE" ∷ codes "FOUR" ∷ codes "IC" ∷ codes "NODESET" ∷ []) w
+    (eight (t (codes ".TRAN")) (t (codes ".AC")) (t (codes ".DC")) (t (codes ".OP")) (t (codes ".NOISE")) (t (codes ".FOUR")) (t (codes ".IC")) (t (codes ".NODESET")) h)
+
+output_dotted : (w : List ℕ) → is_output_word w ≡ true → begin w ≡ 0x2E
+output_dotted w h =
+    let t : List ℕ → Bool = λ text. is_text text w in
+    dotted_one (codes "SAVE" ∷ codes "PRINT" ∷ codes "PLOT" ∷ codes "PROBE" ∷ codes "MEAS" ∷ codes "MEASURE" ∷ codes "WIDTH" ∷ codes "TITLE" ∷ []) w
+    (eight (t (codes ".SAVE")) (t (codes ".PRINT")) (t (codes ".PLOT")) (t (codes ".PROBE")) (t (codes ".MEAS")) (t (codes ".MEASURE")) (t (codes ".WIDTH")) (t (codes ".TITLE")) h)
+
 passed_dotted : (w : List ℕ) → is_passed_word w ≡ true → begin w ≡ 0x2E
 passed_dotted w h =
     let t : List ℕ → Bool = λ text. is_text text w in
@@ -164,7 +193,9 @@ passed_dotted w h =
     let model = t (codes ".MODEL") in
     let temp = t (codes ".TEMP") in
     let end = t (codes ".END") in
-    or_case (param || device || include || inc || lib || endl || model || is_option w || temp) end h
+    or_case (param || device || include || inc || lib || endl || model || is_option w || temp || end || is_analysis_word w) (is_output_word w) h
+    (λ h0. or_case (param || device || include || inc || lib || endl || model || is_option w || temp || end) (is_analysis_word w) h0
+    (λ hh. or_case (param || device || include || inc || lib || endl || model || is_option w || temp) end hh
     (λ h1. or_case (param || device || include || inc || lib || endl || model || is_option w) temp h1
     (λ h2. or_case (param || device || include || inc || lib || endl || model) (is_option w) h2
     (λ h3. or_case (param || device || include || inc || lib || endl) model h3
@@ -180,7 +211,9 @@ passed_dotted w h =
     (dotted (codes "MODEL") w))
     (λ o. or_case (t (codes ".OPTION")) (t (codes ".OPTIONS")) o (dotted (codes "OPTION") w) (dotted (codes "OPTIONS") w)))
     (dotted (codes "TEMP") w))
-    (dotted (codes "END") w)
+    (dotted (codes "END") w))
+    (analysis_dotted w))
+    (output_dotted w)
 
 record IsPassedBy (circuit ends global passed : Bool) : Type 0 where
   circuit_not : circuit ≡ false
@@ -191,19 +224,21 @@ record IsPassedBy (circuit ends global passed : Bool) : Type 0 where
 not_so : {A : Type 0} → false ≡ true → A
 not_so h = absurd (let z : ⊥ = cc in z)
 
-passed_by : (a b c d e f g h : Bool)
-    → is_passed_row (if a then turned.Device else if b then turned.Call else if c then turned.Capacitor else if d then turned.Resistor
+passed_by : (a b c d p q e f g h : Bool)
+    → is_passed_row (if a then turned.Device else if b then turned.Call else if c then turned.Capacitor else if d then turned.Resistor else if p then turned.Diode else if q then turned.Foreign
     else if e then turned.Opening else if f then turned.Ending else if g then turned.Plain else if h then turned.Passed else turned.Unknown) ≡ true
     → IsPassedBy e f g h
-passed_by true b c d e f g h is = not_so is
-passed_by false true c d e f g h is = not_so is
-passed_by false false true d e f g h is = not_so is
-passed_by false false false true e f g h is = not_so is
-passed_by false false false false true f g h is = not_so is
-passed_by false false false false false true g h is = not_so is
-passed_by false false false false false false true h is = not_so is
-passed_by false false false false false false false true is = record { circuit_not = refl; ends_not = refl; global_not = refl; passed_so = refl }
-passed_by false false false false false false false false is = not_so is
+passed_by true b c d p q e f g h is = not_so is
+passed_by false true c d p q e f g h is = not_so is
+passed_by false false true d p q e f g h is = not_so is
+passed_by false false false true p q e f g h is = not_so is
+passed_by false false false false true q e f g h is = not_so is
+passed_by false false false false false true e f g h is = not_so is
+passed_by false false false false false false true f g h is = not_so is
+passed_by false false false false false false false true g h is = not_so is
+passed_by false false false false false false false false true h is = not_so is
+passed_by false false false false false false false false false true is = record { circuit_not = refl; ends_not = refl; global_not = refl; passed_so = refl }
+passed_by false false false false false false false false false false is = not_so is
 
 -- such a card is passed over, or ends the text
 abbrev pub IsSilentRow : Bool → Read → Type 0
@@ -250,7 +285,7 @@ pub silent_row : (limit : Option Limits) (n : ℕ) (open_one : Bool) (ts : List 
 silent_row limit n open_one [] h = not_so h
 silent_row limit n open_one (Equals ∷ ts) h = not_so h
 silent_row limit n open_one (Word first ∷ ts) h =
-    let by = passed_by (begin first == 0x4D) (begin first == 0x58) (begin first == 0x43) (begin first == 0x52) (is_text (codes ".SUBCKT") first) (is_text (codes ".ENDS") first) (is_text (codes ".GLOBAL") first)
+    let by = passed_by (begin first == 0x4D) (begin first == 0x58) (begin first == 0x43) (begin first == 0x52) (begin first == 0x44) (begin first == 0x51 || begin first == 0x4C) (is_text (codes ".SUBCKT") first) (is_text (codes ".ENDS") first) (is_text (codes ".GLOBAL") first)
     (is_passed_word first) h in
     let dot = passed_dotted first by.passed_so in
     silent_by (is_passed first) (is_known first) (is_text (codes ".END") first) n (formed_row limit n open_one first (words_of ts) (params_of (behind_words ts)))

@@ -11,7 +11,8 @@ use Rattle.netlist_join.specs.declared.join.Origin.{Origin}
 use Rattle.netlist_turn.specs.Made.{Told}
 use Rattle.netlist_turn.specs.declared.made.Kind.{Kind}
 use Rattle.netlist_turn.specs.declared.made.Kind.TheVariants.{Card, Parameter, Slash, Params}
-use Rattle.netlist_turn.specs.declared.made.Kind.TheVariants.{Value, Quotes, Name, Size, Device}
+use Rattle.netlist_turn.specs.declared.made.Kind.TheVariants.{Value, Quotes, Name, Number}
+use Rattle.netlist_turn.specs.declared.made.Kind.TheVariants.{Marked, Size, Device}
 use Rattle.netlist_turn.specs.Scale.{micro_text}
 use Rattle.netlist_run.specs.Places.{place_text, origin_of}
 
@@ -47,6 +48,8 @@ pub record Sums : Type 0 where
   pub params : ℕ
   pub quotes : ℕ
   pub names : ℕ
+  pub numbers : ℕ
+  pub marked : ℕ
 
 -- `left out PATH line L WORD`
 abbrev pub card_line : List File → List Origin → Told → List ℕ
@@ -63,6 +66,8 @@ with_kind files origins s t Slash = record s { slashes = raised s.slashes }
 with_kind files origins s t Params = record s { params = raised s.params }
 with_kind files origins s t Quotes = record s { quotes = raised s.quotes }
 with_kind files origins s t Name = record s { names = raised s.names }
+with_kind files origins s t Number = record s { numbers = raised s.numbers }
+with_kind files origins s t Marked = record s { marked = raised s.marked }
 
 abbrev pub sums_from : List File → List Origin → Sums → List Told → Sums
 sums_from files origins s [] = s
@@ -83,6 +88,8 @@ no_sums = record {
   params = 0;
   quotes = 0;
   names = 0;
+  numbers = 0;
+  marked = 0;
 }
 
 -- ` N`, and the line's end
@@ -114,12 +121,18 @@ names_text s =
     ++ (tally_text (codes "scaled") s.sizes.names s.sizes.counts
     ++ tally_text (codes "device") s.devices.names s.devices.counts))
 
+-- escaped names, numbers that were left out, and cards on which `$` marks something
+abbrev pub words_text : Sums → List ℕ
+words_text s =
+    count_text (codes "backslashes") s.names ++ (count_text (codes "numbers") s.numbers
+    ++ count_text (codes "marked") s.marked)
+
 -- so many comments at the ends of lines, and the others
 abbrev pub counts_text : ℕ → Sums → List ℕ
 counts_text comments s =
     count_text (codes "comments") comments ++ (count_text (codes "slashes") s.slashes
     ++ (count_text (codes "PARAMS:") s.params ++ (count_text (codes "quotes") s.quotes
-    ++ count_text (codes "backslashes") s.names)))
+    ++ words_text s)))
 
 -- the first line of the first file, where it is a title
 abbrev pub title_text : Bool → List File → List ℕ

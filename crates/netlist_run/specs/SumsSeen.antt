@@ -17,4 +17,6 @@ seen s = record {
   params = s.params;
   quotes = s.quotes;
   names = s.names;
+  numbers = s.numbers;
+  marked = s.marked;
 }

@@ -23,6 +23,8 @@ pub struct Sums {
     pub params: u64,
     pub quotes: u64,
     pub names: u64,
+    pub numbers: u64,
+    pub marked: u64,
 }
 
 fn no_sums(alloc: Global) -> Sums
@@ -38,6 +40,8 @@ fn no_sums(alloc: Global) -> Sums
         params: 0,
         quotes: 0,
         names: 0,
+        numbers: 0,
+        marked: 0,
     }
 }
 
@@ -87,6 +91,14 @@ fn take(
         }
         Kind::Name => {
             sums.names = raised(sums.names);
+            Ok(())
+        }
+        Kind::Number => {
+            sums.numbers = raised(sums.numbers);
+            Ok(())
+        }
+        Kind::Marked => {
+            sums.marked = raised(sums.marked);
             Ok(())
         }
     }

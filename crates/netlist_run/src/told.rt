@@ -5,7 +5,7 @@ ghost use Rattle.std.specs.Fmt.{decimal};
 ghost use Rattle.netlist_turn.specs.Seen.{told_seen};
 ghost use Rattle.netlist_run.specs.SumsSeen.{seen};
 ghost use Rattle.netlist_run.specs.Sums.{counts_text, names_text, scale_text, title_text};
-ghost use Rattle.netlist_run.specs.Sums.{told_text};
+ghost use Rattle.netlist_run.specs.Sums.{told_text, words_text};
 
 use crate::place::{push_number, push_place};
 use crate::sums::{Sums, sums_of};
@@ -30,6 +30,15 @@ fn push_title(
     out.extend_from_slice(b"title\n")
 }
 
+// Escaped names, numbers that were left out, and cards on which `$` marks something.
+fn push_words(alloc: Global, out: &mut Vec<u8>, sums: &Sums) -> Result<(), AllocError>
+    ensures { OnOk result (out.new.items ≡ out.old.items ++ words_text (seen sums.now)) }
+{
+    push_count(alloc, out, b"backslashes", sums.names)?;
+    push_count(alloc, out, b"numbers", sums.numbers)?;
+    push_count(alloc, out, b"marked", sums.marked)
+}
+
 fn push_counts(
     alloc: Global,
     out: &mut Vec<u8>,
@@ -42,7 +51,7 @@ fn push_counts(
     push_count(alloc, out, b"slashes", sums.slashes)?;
     push_count(alloc, out, b"PARAMS:", sums.params)?;
     push_count(alloc, out, b"quotes", sums.quotes)?;
-    push_count(alloc, out, b"backslashes", sums.names)
+    push_words(alloc, out, sums)
 }
 
 fn push_scale(alloc: Global, out: &mut Vec<u8>, scale: Option<u128>) -> Result<(), AllocError>
@@ -92,8 +101,9 @@ fn push_sums(
 /// each card that is left out; then, where there are any, `scale V` in micrometres, `parameter NAME N`
 /// for each name of parameters that are left out, `value NAME N` for each name whose value was put
 /// in, `scaled NAME N` for each name of sizes that the scale turned, `device NAME N` for each listed name
-/// that was called, `comments N`, `slashes N`,
-/// `PARAMS: N`, `quotes N` and `backslashes N`; and `written N cards`. Linear in the changes.
+/// of which there was a card, `comments N`, `slashes N`,
+/// `PARAMS: N`, `quotes N`, `backslashes N`,
+/// `numbers N` and `marked N`; and `written N cards`. Linear in the changes.
 pub fn told_lines(
     alloc: Global,
     has_title: bool,

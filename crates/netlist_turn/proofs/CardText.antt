@@ -8,13 +8,14 @@ use Rattle.std.proofs.lemmas.List.Elements.{All-head, All-tail}
 use Rattle.fixed_num.specs.declared.femto.ValueFault.{ValueFault}
 use Rattle.spice_cards.specs.Tokens.{Token, Word, Equals, goes_on, is_blank, piece, run, tokens_behind, tokens_of, word_len}
 use Rattle.spice_cards.specs.Parts.{Param}
-use Rattle.netlist_turn.specs.CardLaw.{IsPair, IsWord, kept_or, kept_words, param_tokens, params_text, size_text, turned_params, turned_text, turned_value, words_text}
+use Rattle.netlist_turn.specs.CardLaw.{IsPair, IsWord, kept_or, kept_words, param_tokens, params_text, size_or, turned_params, turned_text, turned_value, words_text}
 use Rattle.netlist_turn.specs.Made.{Made, by_factor, card_made, factor_at, meant, naming, param_made, params_made, size_made, telling, unquoting, value_for, value_made, word_made, word_or, words_made, writing}
 use Rattle.netlist_turn.specs.Scale.{scaled}
 use Rattle.netlist_turn.specs.Words.{has_escape, is_kept_key, left_out, unquoted}
 use Rattle.netlist_turn.specs.declared.made.Kind.{Kind}
 use Rattle.netlist_turn.specs.declared.made.Kind.TheVariants.{Name, Parameter, Quotes}
 use Rattle.netlist_turn.specs.declared.rows.Row.{Row}
+use Rattle.netlist_turn.specs.declared.scale.Factor.{Factor}
 use Rattle.netlist_turn.specs.declared.settings.Settings.{Settings}
 
 -- ---- the text
@@ -44,13 +45,13 @@ words_text_is : (row : Row) (m : Made) (line : ℕ) (ws : List (List ℕ)) → (
 words_text_is row m line [] = sym (append-nil m.text)
 words_text_is row m line (w ∷ ws) = words_text_is row (word_or m line w (left_out row w ws)) line ws ∙ word_or_on m line w (left_out row w ws) (kept_words row ws)
 
-size_text_is : (m : Made) (line : ℕ) (key text : List ℕ) (r : Result ℕ ValueFault) → (size_made m line key text r).text ≡ m.text ++ size_text text r
-size_text_is m line key text (Ok n) = refl
-size_text_is m line key text (Err e) = refl
+size_text_is : (m : Made) (line : ℕ) (key text : List ℕ) (f : Factor) (r : Result ℕ ValueFault) → (size_made m line key text f r).text ≡ m.text ++ size_or text f r
+size_text_is m line key text f (Ok n) = refl
+size_text_is m line key text f (Err e) = refl
 
-factor_text_is : (m : Made) (line : ℕ) (key text : List ℕ) (o : Option ℕ) → (by_factor m line key text o).text ≡ m.text ++ turned_text o text
+factor_text_is : (m : Made) (line : ℕ) (key text : List ℕ) (o : Option Factor) → (by_factor m line key text o).text ≡ m.text ++ turned_text o text
 factor_text_is m line key text None = refl
-factor_text_is m line key text (Some scale) = size_text_is m line key text (scaled scale text)
+factor_text_is m line key text (Some factor) = size_text_is m line key text factor (scaled factor text)
 
 naming_text : (m : Made) (line : ℕ) (plain : List ℕ) (o : Option (Vec ℕ)) → (naming m line plain o).text ≡ m.text
 naming_text m line plain None = refl

@@ -11,25 +11,26 @@ use Rattle.spice_cards.specs.Cards.{Card, cards_of, early_more}
 use Rattle.netlist_turn.specs.CardLaw.{kept_words, param_tokens, params_text, turned_params, words_text}
 use Rattle.netlist_turn.specs.KeptLaw.{IsQuiet, IsWhole, KeptCardsLaw, KeptStartLaw, is_passed_row, is_silent, saying, tokens_in}
 use Rattle.netlist_turn.specs.Made.{Made, card_made, has_shadow, has_stuck, is_left, telling}
-use Rattle.netlist_turn.specs.Turning.{after, and_then, by_device, by_fate, card_taken, device_at, drops_if, early_or, end_fate, fate_of, is_opening, is_out, kept_card, moved, nothing, open_fate, opened, plain_taken, turned, turning, word_taken}
-use Rattle.netlist_turn.specs.Devices.{called_name}
-use Rattle.netlist_turn.specs.Listed.{device_for}
+use Rattle.netlist_turn.specs.Marked.{marks_told, ordered, unmarked}
+use Rattle.netlist_turn.specs.Turning.{after, and_then, by_device, by_fate, card_taken, device_at, drops_if, early_or, end_fate, fate_of, first_taken, is_marked, is_opening, is_out, is_sought, is_unclear, kept_card, moved, nothing, open_fate, opened, ordered_taken, plain_taken, row_taken, turned, turning}
+use Rattle.netlist_turn.specs.Listed.{device_for, dropped, model_of, words_told}
 use Rattle.netlist_turn.specs.declared.device.Device.{Device as ListedDevice}
-use Rattle.netlist_turn.specs.Words.{changes_sizes, first_name, has_escape, row_of}
+use Rattle.netlist_turn.specs.Words.{changes_sizes, first_name, has_escape, left_out, row_of}
 use Rattle.netlist_turn.specs.declared.fault.TurnFault.{TurnFault}
 use Rattle.netlist_turn.specs.declared.fault.TurnFault.TheVariants.{BadForm, EarlyMore, Resized, Shadowed, Unscaled, UnknownCard}
 use Rattle.netlist_turn.specs.declared.made.Where.{Where}
 use Rattle.netlist_turn.specs.declared.made.Where.TheVariants.{Outside, Kept, Left}
 use Rattle.netlist_turn.specs.declared.rows.Row.{Row}
-use Rattle.netlist_turn.specs.declared.rows.Row.TheVariants.{Device, Call, Opening, Ending, Plain, Passed, Capacitor, Resistor, Unknown, Listed}
+use Rattle.netlist_turn.specs.declared.rows.Row.TheVariants.{Device, Call, Opening, Ending, Plain, Passed, Capacitor, Resistor, Diode, Foreign, Unknown, Listed}
 use Rattle.netlist_turn.specs.declared.settings.Settings.{Settings}
 use Rattle.netlist_turn.specs.declared.turn.Fate.{Fate}
 use Rattle.netlist_turn.specs.declared.turn.Fate.TheVariants.{Keeps, Drops, Refuses}
+use Rattle.netlist_turn.specs.declared.made.Kind.{Kind}
 use Rattle.netlist_turn.specs.declared.made.Kind.TheVariants as kind
 use Rattle.netlist_turn.proofs.CardText.{card_text_is}
 use Rattle.netlist_turn.proofs.PlainTokens.{AreOk, AreOkCards, cards_ok}
 use Rattle.netlist_turn.proofs.KeptLines.{AreCardLines, IsCardLine, card_line, lines_cards, lines_start, parted}
-use Rattle.netlist_turn.proofs.Quiet.{before_telling, card_at, card_quiet}
+use Rattle.netlist_turn.proofs.Quiet.{before_telling, card_at, card_quiet, untold}
 
 -- no card stands in a circuit that is left out
 abbrev IsIn : Where → Type 0
@@ -47,7 +48,7 @@ Makes false old ts new = Adds old ts new
 record IsStep (m : Made) (ts : List Token) (k : Made) : Type 0 where
   inside : IsIn k.at
   quiet : IsQuiet k → IsQuiet m
-  makes : IsQuiet k → Makes (is_silent ts) m.text ts k.text
+  makes : AreOk ts → IsQuiet k → Makes (is_silent ts) m.text ts k.text
 
 no_ok : {A B : Type 0} (e : TurnFault) (k : B) → (let r : Result B TurnFault = Err e in r) ≡ Ok k → A
 no_ok e k h = absurd (let z : ⊥ = cc in z)
@@ -92,17 +93,18 @@ record IsKept (s : Settings) (row : Row) (m : Made) (line : ℕ) (first : List �
   are : params_of (behind_words ts) ≡ Some params
   made : card_made s row m line first (words_of ts) params ≡ k
 
-kept_by : (a b : Bool) (s : Settings) (row : Row) (m : Made) (line : ℕ) (first : List ℕ) (ts : List Token) (ps : List Param) (k : Made)
-    → (if a then Err (Shadowed line) else if b then Err (Unscaled line) else Ok (card_made s row m line first (words_of ts) ps)) ≡ Ok k
+kept_by : (a u b : Bool) (s : Settings) (row : Row) (m : Made) (line : ℕ) (first : List ℕ) (ts : List Token) (ps : List Param) (k : Made)
+    → (if a then Err (Shadowed line) else if u then Err (UnknownCard line) else if b then Err (Unscaled line) else Ok (card_made s row m line first (words_of ts) ps)) ≡ Ok k
     → card_made s row m line first (words_of ts) ps ≡ k
-kept_by true b s row m line first ts ps k h = no_ok (Shadowed line) k h
-kept_by false true s row m line first ts ps k h = no_ok (Unscaled line) k h
-kept_by false false s row m line first ts ps k h = ok_is (card_made s row m line first (words_of ts) ps) k h
+kept_by true u b s row m line first ts ps k h = no_ok (Shadowed line) k h
+kept_by false true b s row m line first ts ps k h = no_ok (UnknownCard line) k h
+kept_by false false true s row m line first ts ps k h = no_ok (Unscaled line) k h
+kept_by false false false s row m line first ts ps k h = ok_is (card_made s row m line first (words_of ts) ps) k h
 
 kept_is : (s : Settings) (row : Row) (m : Made) (line : ℕ) (first : List ℕ) (ts : List Token) (o : Option (List Param)) (k : Made) → params_of (behind_words ts) ≡ o
     → kept_card s row m line first (words_of ts) o ≡ Ok k → IsKept s row m line first ts k
 kept_is s row m line first ts None k e h = no_ok (BadForm line) k h
-kept_is s row m line first ts (Some ps) k e h = record { params = ps; are = e; made = kept_by (is_opening row && has_shadow s ps) (has_stuck s row ps) s row m line first ts ps k h }
+kept_is s row m line first ts (Some ps) k e h = record { params = ps; are = e; made = kept_by (is_opening row && has_shadow s ps) (is_unclear row (words_of ts)) (has_stuck s row ps) s row m line first ts ps k h }
 
 -- ---- fates
 
@@ -115,7 +117,9 @@ fate_in at Ending = Keeps
 fate_in at Plain = Keeps
 fate_in at Passed = Drops
 fate_in at Capacitor = Refuses
-fate_in at Resistor = Refuses
+fate_in at Resistor = Keeps
+fate_in at Diode = Keeps
+fate_in at Foreign = Refuses
 fate_in at Unknown = Refuses
 fate_in at Listed = Refuses
 
@@ -145,7 +149,9 @@ fate_is s at Passed words whole inside = refl
 fate_is s at Capacitor words whole inside =
     ap (λ (b : Bool). drops_if (b || s.capacitors) Refuses) (out_none s at whole inside) ∙ ap (λ (b : Bool). drops_if b Refuses) whole.capacitors
 fate_is s at Resistor words whole inside =
-    ap (λ (b : Bool). drops_if (b || s.resistors) Refuses) (out_none s at whole inside) ∙ ap (λ (b : Bool). drops_if b Refuses) whole.resistors
+    ap (λ (b : Bool). drops_if (b || s.resistors) Keeps) (out_none s at whole inside) ∙ ap (λ (b : Bool). drops_if b Keeps) whole.resistors
+fate_is s at Diode words whole inside = ap (λ (b : Bool). drops_if b Keeps) (out_none s at whole inside)
+fate_is s at Foreign words whole inside = ap (λ (b : Bool). drops_if b Refuses) (out_none s at whole inside)
 fate_is s at Unknown words whole inside = ap (λ (b : Bool). drops_if b Refuses) (out_none s at whole inside)
 fate_is s at Listed words whole inside = refl
 
@@ -158,21 +164,23 @@ after_in at Plain left e inside = inside
 after_in at Passed left e inside = inside
 after_in at Capacitor left e inside = inside
 after_in at Resistor left e inside = inside
+after_in at Diode left e inside = inside
+after_in at Foreign left e inside = inside
 after_in at Unknown left e inside = inside
 after_in at Listed left e inside = inside
 
 -- ---- a step
 
 keeps : (s : Settings) (row : Row) (m : Made) (line : ℕ) (first : List ℕ) (ts : List Token) (k : Made) → row_of first ≡ row → is_passed_row row ≡ false → (row ≡ Unknown → ⊥) → IsIn m.at
-    → AreOk (Word first ∷ ts) → kept_card s row m line first (words_of ts) (params_of (behind_words ts)) ≡ Ok k → IsStep m (Word first ∷ ts) k
-keeps s row m line first ts k named passed known inside ok h =
+    → kept_card s row m line first (words_of ts) (params_of (behind_words ts)) ≡ Ok k → IsStep m (Word first ∷ ts) k
+keeps s row m line first ts k named passed known inside h =
     let kept = kept_is s row m line first ts (params_of (behind_words ts)) k refl h in
     let made : Made = card_made s row m line first (words_of ts) kept.params in
     let silent : is_silent (Word first ∷ ts) ≡ false = ap is_passed_row named ∙ passed in
     record {
       inside = subst (λ (x : Made). IsIn x.at) kept.made (subst IsIn (sym (card_at s row m line first (words_of ts) kept.params)) inside);
       quiet = λ q. (let c = card_quiet s row m line first (words_of ts) kept.params (subst IsQuiet (sym kept.made) q) in c.0);
-      makes = λ q. (let c = card_quiet s row m line first (words_of ts) kept.params (subst IsQuiet (sym kept.made) q) in
+      makes = λ ok q. (let c = card_quiet s row m line first (words_of ts) kept.params (subst IsQuiet (sym kept.made) q) in
           subst (λ (b : Bool). Makes b m.text (Word first ∷ ts) k.text) (sym silent)
           (subst (λ (x : Made). Adds m.text (Word first ∷ ts) x.text) kept.made (kept_line s row m line first ts kept.params ok kept.are (λ u. known (sym named ∙ u)) c.1 c.2)));
     }
@@ -189,69 +197,92 @@ drops s m line first ts k named inside h =
     record {
       inside = subst (λ (x : Made). IsIn x.at) made inside;
       quiet = λ q. before_telling m line kind.Card first (subst IsQuiet (sym made) q);
-      makes = λ q. subst (λ (b : Bool). Makes b m.text (Word first ∷ ts) k.text) (sym silent) (sym (ap (λ (x : Made). x.text) made));
+      makes = λ ok q. subst (λ (b : Bool). Makes b m.text (Word first ∷ ts) k.text) (sym silent) (sym (ap (λ (x : Made). x.text) made));
     }
 
-opens : (at : Where) (s : Settings) (m : Made) (line : ℕ) (first : List ℕ) (ts : List Token) (k : Made) → row_of first ≡ Opening → IsIn m.at → AreOk (Word first ∷ ts)
+opens : (at : Where) (s : Settings) (m : Made) (line : ℕ) (first : List ℕ) (ts : List Token) (k : Made) → row_of first ≡ Opening → IsIn m.at
     → by_fate s Opening m line first ts (open_fate at false) ≡ Ok k → IsStep m (Word first ∷ ts) k
-opens Outside s m line first ts k named inside ok h = keeps s Opening m line first ts k named refl (λ e. let f : Opening ≡ Unknown = e in let z : ⊥ = cc in z) inside ok h
-opens Kept s m line first ts k named inside ok h = no_ok (UnknownCard line) k h
-opens Left s m line first ts k named inside ok h = no_ok (UnknownCard line) k h
+opens Outside s m line first ts k named inside h = keeps s Opening m line first ts k named refl (λ e. let f : Opening ≡ Unknown = e in let z : ⊥ = cc in z) inside h
+opens Kept s m line first ts k named inside h = no_ok (UnknownCard line) k h
+opens Left s m line first ts k named inside h = no_ok (UnknownCard line) k h
 
-step_by : (row : Row) (at : Where) (s : Settings) (m : Made) (line : ℕ) (first : List ℕ) (ts : List Token) (k : Made) → row_of first ≡ row → IsIn m.at → AreOk (Word first ∷ ts)
+step_by : (row : Row) (at : Where) (s : Settings) (m : Made) (line : ℕ) (first : List ℕ) (ts : List Token) (k : Made) → row_of first ≡ row → IsIn m.at
     → by_fate s row m line first ts (fate_in at row) ≡ Ok k → IsStep m (Word first ∷ ts) k
-step_by Device at s m line first ts k named inside ok h = keeps s Device m line first ts k named refl (λ e. let f : Device ≡ Unknown = e in let z : ⊥ = cc in z) inside ok h
-step_by Call at s m line first ts k named inside ok h = keeps s Call m line first ts k named refl (λ e. let f : Call ≡ Unknown = e in let z : ⊥ = cc in z) inside ok h
-step_by Opening at s m line first ts k named inside ok h = opens at s m line first ts k named inside ok h
-step_by Ending at s m line first ts k named inside ok h = keeps s Ending m line first ts k named refl (λ e. let f : Ending ≡ Unknown = e in let z : ⊥ = cc in z) inside ok h
-step_by Plain at s m line first ts k named inside ok h = keeps s Plain m line first ts k named refl (λ e. let f : Plain ≡ Unknown = e in let z : ⊥ = cc in z) inside ok h
-step_by Passed at s m line first ts k named inside ok h = drops s m line first ts k named inside h
-step_by Capacitor at s m line first ts k named inside ok h = no_ok (UnknownCard line) k h
-step_by Resistor at s m line first ts k named inside ok h = no_ok (UnknownCard line) k h
-step_by Unknown at s m line first ts k named inside ok h = no_ok (UnknownCard line) k h
-step_by Listed at s m line first ts k named inside ok h = no_ok (UnknownCard line) k h
+step_by Device at s m line first ts k named inside h = keeps s Device m line first ts k named refl (λ e. let f : Device ≡ Unknown = e in let z : ⊥ = cc in z) inside h
+step_by Call at s m line first ts k named inside h = keeps s Call m line first ts k named refl (λ e. let f : Call ≡ Unknown = e in let z : ⊥ = cc in z) inside h
+step_by Opening at s m line first ts k named inside h = opens at s m line first ts k named inside h
+step_by Ending at s m line first ts k named inside h = keeps s Ending m line first ts k named refl (λ e. let f : Ending ≡ Unknown = e in let z : ⊥ = cc in z) inside h
+step_by Plain at s m line first ts k named inside h = keeps s Plain m line first ts k named refl (λ e. let f : Plain ≡ Unknown = e in let z : ⊥ = cc in z) inside h
+step_by Passed at s m line first ts k named inside h = drops s m line first ts k named inside h
+step_by Capacitor at s m line first ts k named inside h = no_ok (UnknownCard line) k h
+step_by Resistor at s m line first ts k named inside h = keeps s Resistor m line first ts k named refl (λ e. let f : Resistor ≡ Unknown = e in let z : ⊥ = cc in z) inside h
+step_by Diode at s m line first ts k named inside h = keeps s Diode m line first ts k named refl (λ e. let f : Diode ≡ Unknown = e in let z : ⊥ = cc in z) inside h
+step_by Foreign at s m line first ts k named inside h = no_ok (UnknownCard line) k h
+step_by Unknown at s m line first ts k named inside h = no_ok (UnknownCard line) k h
+step_by Listed at s m line first ts k named inside h = no_ok (UnknownCard line) k h
 
 -- no name is listed
-none_by : {A : Type 0} (b : Bool) (o : Option A) → o ≡ None → (if b then None else o) ≡ None
-none_by true o e = refl
-none_by false o e = e
+none_by : {A : Type 0} (b : Bool) (o : Option A) → o ≡ None → (if b then o else None) ≡ None
+none_by true o e = e
+none_by false o e = refl
 
 no_device : (s : Settings) (at : Where) (row : Row) (ts : List Token) → IsWhole s → device_at s at row ts ≡ None
-no_device s at Device ts whole = refl
-no_device s at Call ts whole =
-    let name : List ℕ = called_name (kept_words Call (words_of ts)) in
-    none_by (is_out s at) (device_for s name) (ap (λ (ds : List ListedDevice). slice_get ds (place_of s.listed (folded_bytes name))) whole.devices)
-no_device s at Opening ts whole = refl
-no_device s at Ending ts whole = refl
-no_device s at Plain ts whole = refl
-no_device s at Passed ts whole = refl
-no_device s at Capacitor ts whole = refl
-no_device s at Resistor ts whole = refl
-no_device s at Unknown ts whole = refl
-no_device s at Listed ts whole = refl
+no_device s at row ts whole =
+    let name : List ℕ = model_of row (kept_words row (words_of ts)) in
+    none_by (is_sought s at row) (device_for s name) (ap (λ (ds : List ListedDevice). slice_get ds (place_of s.listed (folded_bytes name))) whole.devices)
 
-plain_step : (s : Settings) (m : Made) (line : ℕ) (first : List ℕ) (ts : List Token) (k : Made) → IsWhole s → IsIn m.at → AreOk (Word first ∷ ts) → plain_taken s m line first ts ≡ Ok k
+plain_step : (s : Settings) (m : Made) (line : ℕ) (first : List ℕ) (ts : List Token) (k : Made) → IsWhole s → IsIn m.at → plain_taken s m line first ts ≡ Ok k
     → IsStep m (Word first ∷ ts) k
 unfolding plain_taken
-plain_step s m line first ts k whole inside ok h =
+plain_step s m line first ts k whole inside h =
     let row = row_of first in
     let left = is_left s (words_of ts) in
     let at : Where = after m.at row left in
     let fate : fate_of s m.at row left ≡ fate_in m.at row = fate_is s m.at row (words_of ts) whole inside in
     let step : IsStep (moved at m) (Word first ∷ ts) k =
-    step_by row m.at s (moved at m) line first ts k refl (after_in m.at row left (left_none s (words_of ts) whole) inside) ok (ap (λ (f : Fate). by_fate s row (moved at m) line first ts f) (sym fate) ∙ h) in
+    step_by row m.at s (moved at m) line first ts k refl (after_in m.at row left (left_none s (words_of ts) whole) inside) (ap (λ (f : Fate). by_fate s row (moved at m) line first ts f) (sym fate) ∙ h) in
     record { inside = step.inside; quiet = step.quiet; makes = step.makes }
 
-word_step : (s : Settings) (m : Made) (line : ℕ) (first : List ℕ) (ts : List Token) (k : Made) → IsWhole s → IsIn m.at → AreOk (Word first ∷ ts) → word_taken s m line first ts ≡ Ok k
+word_step : (s : Settings) (m : Made) (line : ℕ) (first : List ℕ) (ts : List Token) (k : Made) → IsWhole s → IsIn m.at → row_taken s (row_of first) m line first ts ≡ Ok k
     → IsStep m (Word first ∷ ts) k
-word_step s m line first ts k whole inside ok h =
-    let plain : word_taken s m line first ts ≡ plain_taken s m line first ts = ap (λ (o : Option ListedDevice). by_device s m line first ts o) (no_device s m.at (row_of first) ts whole) in
-    plain_step s m line first ts k whole inside ok (sym plain ∙ h)
+word_step s m line first ts k whole inside h =
+    let plain : row_taken s (row_of first) m line first ts ≡ plain_taken s m line first ts = ap (λ (o : Option ListedDevice). by_device s (row_of first) m line first ts o) (no_device s m.at (row_of first) ts whole) in
+    plain_step s m line first ts k whole inside (sym plain ∙ h)
 
-step : (s : Settings) (m : Made) (line : ℕ) (ts : List Token) (k : Made) → IsWhole s → IsIn m.at → AreOk ts → card_taken s m line ts ≡ Ok k → IsStep m ts k
-step s m line [] k whole inside ok h = no_ok (UnknownCard line) k h
-step s m line (Equals ∷ ts) k whole inside ok h = no_ok (UnknownCard line) k h
-step s m line (Word first ∷ ts) k whole inside ok h = word_step s m line first ts k whole inside ok h
+-- what `$` marks is told
+dropped_at : (m : Made) (line : ℕ) (w : List ℕ) (o : Option Kind) → (dropped m line w o).at ≡ m.at
+dropped_at m line w None = refl
+dropped_at m line w (Some k) = refl
+
+told_words_at : (row : Row) (m : Made) (line : ℕ) (ws : List (List ℕ)) → (words_told row m line ws).at ≡ m.at
+told_words_at row m line [] = refl
+told_words_at row m line (w ∷ ws) = told_words_at row (dropped m line w (left_out row w ws)) line ws ∙ dropped_at m line w (left_out row w ws)
+
+abbrev marked_or : Bool → Settings → Made → ℕ → List ℕ → List Token → Result Made TurnFault
+marked_or b s m line first ts =
+    if b then ordered_taken s (row_of first) m line first ts else row_taken s (row_of first) m line first ts
+
+marked_at : (row : Row) (m : Made) (line : ℕ) (first : List ℕ) (ts : List Token) → (marks_told row m line first ts).at ≡ m.at
+marked_at row m line first ts = told_words_at row m line (unmarked (words_of ts))
+
+marked_step : (s : Settings) (m : Made) (line : ℕ) (first : List ℕ) (ts : List Token) (k : Made) → IsWhole s → IsIn m.at
+    → first_taken s (row_of first) m line first ts ≡ Ok k → (b : Bool) → is_marked s m.at (row_of first) ts ≡ b → IsStep m (Word first ∷ ts) k
+marked_step s m line first ts k whole inside h false e =
+    word_step s m line first ts k whole inside (sym (ap (λ (b : Bool). marked_or b s m line first ts) e) ∙ h)
+marked_step s m line first ts k whole inside h true e =
+    let told : Made = marks_told (row_of first) m line first ts in
+    let taken : row_taken s (row_of first) told line first (ordered (row_of first) ts) ≡ Ok k = sym (ap (λ (b : Bool). marked_or b s m line first ts) e) ∙ h in
+    let step = word_step s told line first (ordered (row_of first) ts) k whole (subst IsIn (sym (marked_at (row_of first) m line first ts)) inside) taken in
+    record {
+      inside = step.inside;
+      quiet = λ q. untold (words_told (row_of first) m line (unmarked (words_of ts))) line kind.Marked first refl (step.quiet q);
+      makes = λ ok q. untold (words_told (row_of first) m line (unmarked (words_of ts))) line kind.Marked first refl (step.quiet q);
+    }
+
+step : (s : Settings) (m : Made) (line : ℕ) (ts : List Token) (k : Made) → IsWhole s → IsIn m.at → card_taken s m line ts ≡ Ok k → IsStep m ts k
+step s m line [] k whole inside h = no_ok (UnknownCard line) k h
+step s m line (Equals ∷ ts) k whole inside h = no_ok (UnknownCard line) k h
+step s m line (Word first ∷ ts) k whole inside h = marked_step s m line first ts k whole inside h (is_marked s m.at (row_of first) ts) refl
 
 -- ---- all cards
 
@@ -283,9 +314,9 @@ steps_on : (r : Result Made TurnFault) (s : Settings) (m : Made) (c : Card) (cs 
     → ((next : Made) → IsIn next.at → turning s next cs ≡ Ok k → AreSteps next cs k) → AreSteps m (c ∷ cs) k
 steps_on (Err x) s m c cs k whole inside ok oks e h q rest = no_ok x k h
 steps_on (Ok next) s m c cs k whole inside ok oks e h q rest =
-    let one = step s m c.line c.tokens next whole inside ok e in
+    let one = step s m c.line c.tokens next whole inside e in
     let more = rest next one.inside h in
-    steps_by (is_silent c.tokens) m next k c.tokens cs c refl refl (one.quiet more.quiet) (one.makes more.quiet) more
+    steps_by (is_silent c.tokens) m next k c.tokens cs c refl refl (one.quiet more.quiet) (one.makes ok more.quiet) more
 
 all_steps : (s : Settings) (m : Made) (cs : List Card) (k : Made) → IsWhole s → IsIn m.at → AreOkCards cs → turning s m cs ≡ Ok k → IsQuiet k → AreSteps m cs k
 all_steps s m [] k whole inside ok h q =

@@ -10,15 +10,16 @@ use Rattle.std.proofs.lemmas.Bool.{eqb-true}
 use Rattle.fixed_num.specs.declared.femto.ValueFault.{ValueFault}
 use Rattle.spice_cards.specs.Parts.{Param}
 use Rattle.std.specs.Prelude.{codes}
-use Rattle.netlist_turn.specs.CardLaw.{kept_or, kept_words, size_text, turned_params, turned_text, turned_value}
+use Rattle.netlist_turn.specs.CardLaw.{kept_or, kept_words, size_or, turned_params, turned_text, turned_value}
 use Rattle.netlist_turn.specs.KeptLaw.{IsQuiet, is_of_card, tells_card}
 use Rattle.netlist_turn.specs.Made.{Made, Told, by_factor, card_made, factor_at, meant, naming, param_made, params_made, size_made, telling, unquoting, value_for, value_made, word_made, word_or, words_made, writing}
-use Rattle.netlist_turn.specs.Scale.{micro_text, scaled}
-use Rattle.netlist_turn.specs.Words.{has_escape, is_circuit_end, is_kept_key, is_none, is_params, is_quoted, left_out, unquoted}
+use Rattle.netlist_turn.specs.Scale.{scaled, size_text}
+use Rattle.netlist_turn.specs.Words.{has_escape, is_circuit_end, is_kept_key, is_number, is_none, is_params, is_quoted, left_out, unquoted}
 use Rattle.netlist_turn.specs.declared.made.Kind.{Kind}
 use Rattle.netlist_turn.specs.declared.made.Kind.TheVariants as kind
 use Rattle.netlist_turn.specs.declared.rows.Row.{Row}
-use Rattle.netlist_turn.specs.declared.rows.Row.TheVariants.{Device, Call, Opening, Ending, Plain, Passed, Capacitor, Resistor, Unknown, Listed}
+use Rattle.netlist_turn.specs.declared.scale.Factor.{Factor}
+use Rattle.netlist_turn.specs.declared.rows.Row.TheVariants.{Device, Call, Opening, Ending, Plain, Passed, Capacitor, Resistor, Diode, Foreign, Unknown, Listed}
 use Rattle.netlist_turn.specs.declared.settings.Settings.{Settings}
 
 and_both : (a b : Bool) → (a && b) ≡ true → (a ≡ true) × (b ≡ true)
@@ -58,6 +59,10 @@ params_by : (b : Bool) → IsNoCard (if b then Some kind.Params else None)
 params_by true = refl
 params_by false = tt
 
+number_by : (b : Bool) → IsNoCard (if b then Some kind.Number else None)
+number_by true = refl
+number_by false = tt
+
 slash_by : (a b : Bool) → IsNoCard (if a then Some kind.Params else if b then Some kind.Slash else None)
 slash_by true b = refl
 slash_by false true = refl
@@ -70,8 +75,10 @@ left_is Opening w ws = params_by (is_params w && is_none ws)
 left_is Ending w ws = tt
 left_is Plain w ws = tt
 left_is Passed w ws = tt
-left_is Capacitor w ws = tt
-left_is Resistor w ws = tt
+left_is Capacitor w ws = number_by (is_none ws && is_number w)
+left_is Resistor w ws = number_by (is_none ws && is_number w)
+left_is Diode w ws = tt
+left_is Foreign w ws = number_by (is_none ws && is_number w)
 left_is Unknown w ws = tt
 left_is Listed w ws = tt
 
@@ -116,13 +123,13 @@ naming_quiet : (m : Made) (line : ℕ) (plain : List ℕ) (o : Option (Vec ℕ))
 naming_quiet m line plain None h = (h, refl)
 naming_quiet m line plain (Some text) h = untold m line kind.Value plain refl h
 
-size_quiet : (m : Made) (line : ℕ) (key text : List ℕ) (r : Result ℕ ValueFault) → IsQuiet (size_made m line key text r) → IsQuiet m × (size_text text r ≡ text)
-size_quiet m line key text (Ok n) h = untold (writing m (micro_text n)) line kind.Size key refl h
-size_quiet m line key text (Err e) h = (h, refl)
+size_quiet : (m : Made) (line : ℕ) (key text : List ℕ) (f : Factor) (r : Result ℕ ValueFault) → IsQuiet (size_made m line key text f r) → IsQuiet m × (size_or text f r ≡ text)
+size_quiet m line key text f (Ok n) h = untold (writing m (size_text f n)) line kind.Size key refl h
+size_quiet m line key text f (Err e) h = (h, refl)
 
-factor_quiet : (m : Made) (line : ℕ) (key text : List ℕ) (o : Option ℕ) → IsQuiet (by_factor m line key text o) → IsQuiet m × (turned_text o text ≡ text)
+factor_quiet : (m : Made) (line : ℕ) (key text : List ℕ) (o : Option Factor) → IsQuiet (by_factor m line key text o) → IsQuiet m × (turned_text o text ≡ text)
 factor_quiet m line key text None h = (h, refl)
-factor_quiet m line key text (Some scale) h = size_quiet m line key text (scaled scale text) h
+factor_quiet m line key text (Some factor) h = size_quiet m line key text factor (scaled factor text) h
 
 value_quiet : (s : Settings) (row : Row) (m : Made) (line : ℕ) (p : Param) → IsQuiet (value_made s row m line p) → IsQuiet m × (turned_value s row p ≡ p.value)
 value_quiet s row m line p h =
@@ -182,13 +189,13 @@ words_at : (row : Row) (m : Made) (line : ℕ) (ws : List (List ℕ)) → (words
 words_at row m line [] = refl
 words_at row m line (w ∷ ws) = words_at row (word_or m line w (left_out row w ws)) line ws ∙ or_at m line w (left_out row w ws)
 
-size_at : (m : Made) (line : ℕ) (key text : List ℕ) (r : Result ℕ ValueFault) → (size_made m line key text r).at ≡ m.at
-size_at m line key text (Ok n) = refl
-size_at m line key text (Err e) = refl
+size_at : (m : Made) (line : ℕ) (key text : List ℕ) (f : Factor) (r : Result ℕ ValueFault) → (size_made m line key text f r).at ≡ m.at
+size_at m line key text f (Ok n) = refl
+size_at m line key text f (Err e) = refl
 
-by_factor_at : (m : Made) (line : ℕ) (key text : List ℕ) (o : Option ℕ) → (by_factor m line key text o).at ≡ m.at
+by_factor_at : (m : Made) (line : ℕ) (key text : List ℕ) (o : Option Factor) → (by_factor m line key text o).at ≡ m.at
 by_factor_at m line key text None = refl
-by_factor_at m line key text (Some scale) = size_at m line key text (scaled scale text)
+by_factor_at m line key text (Some factor) = size_at m line key text factor (scaled factor text)
 
 naming_at : (m : Made) (line : ℕ) (plain : List ℕ) (o : Option (Vec ℕ)) → (naming m line plain o).at ≡ m.at
 naming_at m line plain None = refl

@@ -6,9 +6,10 @@ use Rattle.netlist_turn.specs.Scale.{is_unscaled}
 use Rattle.netlist_turn.specs.Words.{unquoted}
 use Rattle.netlist_turn.specs.Made.{Made, by_factor, factor_at, is_stuck, meant, naming, unquoting, value_for, value_made, writing}
 use Rattle.netlist_turn.specs.declared.rows.Row.{Row}
+use Rattle.netlist_turn.specs.declared.scale.Factor.{Factor}
 use Rattle.netlist_turn.specs.declared.settings.Settings.{Settings}
 
-pub value_is : (s : Settings) (row : Row) (m : Made) (line : ℕ) (p : Param) (plain text : List ℕ) (found : Option (Vec ℕ)) (factor : Option ℕ) (a b c : Made)
+pub value_is : (s : Settings) (row : Row) (m : Made) (line : ℕ) (p : Param) (plain text : List ℕ) (found : Option (Vec ℕ)) (factor : Option Factor) (a b c : Made)
     → plain ≡ unquoted p.value → a ≡ unquoting m line p.value → found ≡ value_for s plain → b ≡ naming a line plain found → factor ≡ factor_at s row p.key → text ≡ meant plain found
     → c ≡ by_factor b line p.key text factor → writing c (0x20 ∷ []) ≡ value_made s row m line p
 value_is s row m line p plain text found factor a b c is_plain is_a is_found is_b is_factor is_text is_c =
@@ -22,7 +23,7 @@ value_is s row m line p plain text found factor a b c is_plain is_a is_found is_
     ap (λ (x : Made). writing x (0x20 ∷ []))
     (is_c ∙ ap (λ (x : Made). by_factor x line p.key text factor) named
     ∙ ap (λ (x : List ℕ). by_factor (naming start line bare value) line p.key x factor) said
-    ∙ ap (λ (x : Option ℕ). by_factor (naming start line bare value) line p.key (meant bare value) x) is_factor)
+    ∙ ap (λ (x : Option Factor). by_factor (naming start line bare value) line p.key (meant bare value) x) is_factor)
 
 pub stuck_is : (s : Settings) (row : Row) (p : Param) (b : Bool) → b ≡ is_unscaled (factor_at s row p.key) (meant (unquoted p.value) (value_for s (unquoted p.value))) → b ≡ is_stuck s row p
 unfolding is_stuck

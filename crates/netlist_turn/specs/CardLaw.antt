@@ -7,10 +7,11 @@ use Rattle.fixed_num.specs.declared.femto.ValueFault.{ValueFault}
 use Rattle.spice_cards.specs.Tokens.{Token, Word, Equals, tokens_of, word_len}
 use Rattle.spice_cards.specs.Parts.{Param}
 use Rattle.netlist_turn.specs.Made.{Made, card_made, factor_at, meant, value_for}
-use Rattle.netlist_turn.specs.Scale.{micro_text, scaled}
+use Rattle.netlist_turn.specs.Scale.{scaled, size_text}
 use Rattle.netlist_turn.specs.Words.{is_kept_key, left_out, unquoted}
 use Rattle.netlist_turn.specs.declared.made.Kind.{Kind}
 use Rattle.netlist_turn.specs.declared.rows.Row.{Row}
+use Rattle.netlist_turn.specs.declared.scale.Factor.{Factor}
 use Rattle.netlist_turn.specs.declared.settings.Settings.{Settings}
 
 abbrev pub kept_or : List ℕ → Option Kind → List (List ℕ) → List (List ℕ)
@@ -22,14 +23,14 @@ abbrev pub kept_words : Row → List (List ℕ) → List (List ℕ)
 kept_words row [] = []
 kept_words row (w ∷ ws) = kept_or w (left_out row w ws) (kept_words row ws)
 
-abbrev pub size_text : List ℕ → Result ℕ ValueFault → List ℕ
-size_text text (Ok n) = micro_text n
-size_text text (Err e) = text
+abbrev pub size_or : List ℕ → Factor → Result ℕ ValueFault → List ℕ
+size_or text f (Ok n) = size_text f n
+size_or text f (Err e) = text
 
 -- by the scale, where it is a size
-abbrev pub turned_text : Option ℕ → List ℕ → List ℕ
+abbrev pub turned_text : Option Factor → List ℕ → List ℕ
 turned_text None text = text
-turned_text (Some scale) text = size_text text (scaled scale text)
+turned_text (Some factor) text = size_or text factor (scaled factor text)
 
 -- without quotes, a name's value in its place
 abbrev pub turned_value : Settings → Row → Param → List ℕ

@@ -6,6 +6,7 @@ pub mod DevicesSeen
 pub mod Made
 pub mod CardLaw
 pub mod Listed
+pub mod Marked
 pub mod DeviceLaw
 pub mod Turning
 pub mod KeptLaw

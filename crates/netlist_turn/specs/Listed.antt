@@ -1,6 +1,6 @@
--- Calls of listed names: which they are, and the cards that are written of them.
+-- Cards of listed names: which they are, and the cards that are written of them.
 use Rattle.std.specs.Prelude.{ℕ, ◌+◌, ◌==◌, ◌&&◌, ◌||◌, not, nat_lt, Bool, true, false}
-use Rattle.std.specs.Prelude.{List, [], ◌∷◌, length, slice_get, codes}
+use Rattle.std.specs.Prelude.{List, [], ◌∷◌, length, slice_get, slice_index_or, codes}
 use Rattle.std.specs.Prelude.{Option, Some, None, if◌then◌else◌}
 use Rattle.std.specs.List.{count_by, list_any}
 use Rattle.std.specs.Str.{bytes_eq}
@@ -9,20 +9,55 @@ use Rattle.text_table.specs.Texts.{place_of}
 use Rattle.plain_netlist.specs.declared.kinds.DeviceKind.{DeviceKind}
 use Rattle.spice_cards.specs.Parts.{Param}
 use Rattle.spice_rows.specs.Kinds.{letter}
+use Rattle.spice_rows.specs.Rows.{begin}
 use Rattle.netlist_turn.specs.CardLaw.{kept_words}
 use Rattle.netlist_turn.specs.Devices.{Device, called_name, device_params, device_words, is_written}
 use Rattle.netlist_turn.specs.Devices.{key_of, stands_for}
 use Rattle.netlist_turn.specs.Made.{Made, card_made, meant, telling, value_for, writing}
-use Rattle.netlist_turn.specs.Words.{left_out, unquoted}
+use Rattle.netlist_turn.specs.Words.{is_number, left_out, unquoted}
 use Rattle.netlist_turn.specs.declared.device.Device.{Device as ListedDevice}
 use Rattle.netlist_turn.specs.declared.made.Kind.{Kind}
-use Rattle.netlist_turn.specs.declared.made.Kind.TheVariants.{Parameter, Device as DeviceKindTold}
-use Rattle.netlist_turn.specs.declared.rows.Row.TheVariants.{Call, Listed}
+use Rattle.netlist_turn.specs.declared.made.Kind.TheVariants.{Number, Parameter}
+use Rattle.netlist_turn.specs.declared.made.Kind.TheVariants.{Device as DeviceKindTold}
+use Rattle.netlist_turn.specs.declared.rows.Row.{Row}
+use Rattle.netlist_turn.specs.declared.rows.Row.TheVariants.{Call, Capacitor, Device as Transistor}
+use Rattle.netlist_turn.specs.declared.rows.Row.TheVariants.{Diode, Foreign, Listed, Resistor}
 use Rattle.netlist_turn.specs.declared.settings.Settings.{Settings}
 
 -- what a name is listed as
 abbrev pub device_for : Settings → List ℕ → Option ListedDevice
 device_for s name = slice_get s.devices.items (place_of s.listed (folded_bytes name))
+
+-- a card that may be of a listed name
+abbrev pub may_be_listed : Row → Bool
+may_be_listed Call = true
+may_be_listed Transistor = true
+may_be_listed Resistor = true
+may_be_listed Capacitor = true
+may_be_listed Diode = true
+may_be_listed Foreign = true
+may_be_listed row = false
+
+-- the name: a call's last word, and of another card the last behind two nets
+abbrev pub model_of : Row → List (List ℕ) → List ℕ
+model_of Call words = called_name words
+model_of row words = if nat_lt 2 (length words) then called_name words else []
+
+-- a card that is no call has the letter of another kind
+abbrev pub is_of_other : Row → DeviceKind → List ℕ → Bool
+is_of_other Call kind first = false
+is_of_other row kind first = not (begin first == letter kind)
+
+-- a resistor's words have a number between its nets and its name
+abbrev pub has_number : Row → Device → List (List ℕ) → Bool
+has_number Resistor d words =
+    length words == length d.places + 2
+    && is_number (slice_index_or words (length d.places) [])
+has_number row d words = false
+
+-- the words are a net for each terminal, and the name
+abbrev pub has_nets : Row → Device → List (List ℕ) → Bool
+has_nets row d words = length words == length d.places + 1 || has_number row d words
 
 -- ---- counts
 
@@ -54,14 +89,22 @@ has_odd_count s keys ps = is_manifold keys ps || has_odd s keys (count_text s ke
 
 -- ---- what is written, and told
 
--- a word of a call that isn't one of its nets or its name
+-- a word of a card that isn't one of its nets or its name
 abbrev pub dropped : Made → ℕ → List ℕ → Option Kind → Made
 dropped m line w None = m
 dropped m line w (Some kind) = telling m line kind w
 
-abbrev pub words_told : Made → ℕ → List (List ℕ) → Made
-words_told m line [] = m
-words_told m line (w ∷ ws) = words_told (dropped m line w (left_out Call w ws)) line ws
+abbrev pub words_told : Row → Made → ℕ → List (List ℕ) → Made
+words_told row m line [] = m
+words_told row m line (w ∷ ws) =
+    words_told row (dropped m line w (left_out row w ws)) line ws
+
+-- a number between its nets and its name
+abbrev pub number_told : Row → Device → Made → ℕ → List (List ℕ) → Made
+number_told row d m line words =
+    if has_number row d words
+    then telling m line Number (slice_index_or words (length d.places) [])
+    else m
 
 -- a parameter that stands for no key of the card
 abbrev pub param_told : DeviceKind → List Param → Made → ℕ → Param → Made
@@ -73,15 +116,22 @@ params_told kind keys m line [] = m
 params_told kind keys m line (p ∷ ps) =
     params_told kind keys (param_told kind keys m line p) line ps
 
--- all that is told of the call before its card, and the letter that begins the card
-abbrev pub device_told : DeviceKind → Device → Made → ℕ → List (List ℕ) → List Param → Made
-device_told kind d m line words ps =
-    writing (telling (params_told kind d.keys (words_told m line words) line ps) line
-    DeviceKindTold (called_name (kept_words Call words))) (letter kind ∷ [])
+-- the letter that comes before a call's first word
+abbrev pub prefix : Row → DeviceKind → List ℕ
+prefix Call kind = letter kind ∷ []
+prefix row kind = []
 
--- the card: its nets, class and parameters are those of the call, by the list
-abbrev pub device_made : Settings → DeviceKind → Device → Made → ℕ → List ℕ → List (List ℕ)
+-- all that is told of a card of a listed name, and the letter that begins the card that is made
+abbrev pub device_told : Row → DeviceKind → Device → Made → ℕ → List (List ℕ) → List Param → Made
+device_told row kind d m line words ps =
+    writing (telling
+    (params_told kind d.keys (number_told row d (words_told row m line words) line
+    (kept_words row words)) line ps)
+    line DeviceKindTold (called_name (kept_words row words))) (prefix row kind)
+
+-- the card: its nets, class and parameters are those of the given one, by the list
+abbrev pub device_made : Settings → Row → DeviceKind → Device → Made → ℕ → List ℕ → List (List ℕ)
     → List Param → Made
-device_made s kind d m line first words ps =
-    card_made s Listed (device_told kind d m line words ps) line first
-    (device_words d (kept_words Call words)) (device_params kind d.keys ps)
+device_made s row kind d m line first words ps =
+    card_made s Listed (device_told row kind d m line words ps) line first
+    (device_words d (kept_words row words)) (device_params kind d.keys ps)

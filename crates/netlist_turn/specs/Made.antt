@@ -1,7 +1,7 @@
 -- What is made of cards: the written text, the line of the card that each of its lines was, and
 -- what is told of each change.
 use Rattle.std.specs.Prelude.{ℕ, Bool, not, ◌==◌, ◌&&◌, ◌||◌, List, [], ◌∷◌, ◌++◌, length, slice_get}
-use Rattle.std.specs.Prelude.{slice_index_or, false, Option, Some, None, is_some, if◌then◌else◌}
+use Rattle.std.specs.Prelude.{slice_index_or, true, false, Option, Some, None, is_some, if◌then◌else◌}
 use Rattle.std.specs.Prelude.{Result, Ok, Err}
 use Rattle.std.specs.Global.{Vec}
 use Rattle.std.specs.List.{list_any}
@@ -9,9 +9,10 @@ use Rattle.net_names.specs.Folding.{folded_bytes}
 use Rattle.text_table.specs.Texts.{has_text, place_of}
 use Rattle.spice_cards.specs.Parts.{Param}
 use Rattle.fixed_num.specs.declared.femto.ValueFault.{ValueFault}
-use Rattle.netlist_turn.specs.Scale.{is_unscaled, micro_text, scaled}
-use Rattle.netlist_turn.specs.Words.{has_escape, left_out, is_kept_key, is_size_key, unquoted}
-use Rattle.netlist_turn.specs.Words.{first_name}
+use Rattle.netlist_turn.specs.Scale.{is_unscaled, scaled, size_text}
+use Rattle.netlist_turn.specs.Words.{has_escape, left_out, is_area_key, is_kept_key, is_size_key}
+use Rattle.netlist_turn.specs.Words.{first_name, unquoted}
+use Rattle.netlist_turn.specs.declared.scale.Factor.{Factor}
 use Rattle.netlist_turn.specs.declared.rows.Row.{Row}
 use Rattle.netlist_turn.specs.declared.made.Kind.{Kind}
 use Rattle.netlist_turn.specs.declared.made.Kind.TheVariants.{Name, Value, Quotes, Parameter, Size}
@@ -70,18 +71,26 @@ unquoting m line v = if length (unquoted v) == length v then m else telling m li
 abbrev pub value_for : Settings → List ℕ → Option (Vec ℕ)
 value_for s plain = slice_get s.values.items (place_of s.names (folded_bytes plain))
 
--- the scale, for a size
-abbrev pub factor_at : Settings → Row → List ℕ → Option ℕ
-factor_at s row key = if is_size_key row key then s.scale else None
+-- the scale, where there is one, once or twice
+abbrev pub by_scale : Bool → Option ℕ → Option Factor
+by_scale is_twice None = None
+by_scale is_twice (Some scale) = Some (record { scale = scale; is_twice = is_twice })
+
+-- for a length or an area
+abbrev pub factor_at : Settings → Row → List ℕ → Option Factor
+factor_at s row key =
+    if is_size_key row key then by_scale false s.scale
+    else if is_area_key row key then by_scale true s.scale
+    else None
 
 -- a size by the scale, told by its key
-abbrev pub size_made : Made → ℕ → List ℕ → List ℕ → Result ℕ ValueFault → Made
-size_made m line key text (Ok n) = telling (writing m (micro_text n)) line Size key
-size_made m line key text (Err e) = writing m text
+abbrev pub size_made : Made → ℕ → List ℕ → List ℕ → Factor → Result ℕ ValueFault → Made
+size_made m line key text f (Ok n) = telling (writing m (size_text f n)) line Size key
+size_made m line key text f (Err e) = writing m text
 
-abbrev pub by_factor : Made → ℕ → List ℕ → List ℕ → Option ℕ → Made
+abbrev pub by_factor : Made → ℕ → List ℕ → List ℕ → Option Factor → Made
 by_factor m line key text None = writing m text
-by_factor m line key text (Some scale) = size_made m line key text (scaled scale text)
+by_factor m line key text (Some factor) = size_made m line key text factor (scaled factor text)
 
 -- a value without quotes, with a defined name's value in its place, and by the scale where it is a
 -- size, and a blank

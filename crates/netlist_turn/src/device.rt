@@ -141,9 +141,9 @@ fn class_of<'a>(keys: &'a [Key], name: &'a [u8]) -> &'a [u8]
     name
 }
 
-// The word of a place, or an empty one.
+/// The word of a place, or an empty one.
 #[tactic(auto, using(crate::proofs::DeviceLemmas::word_there, crate::proofs::DeviceLemmas::word_past))]
-fn word_at<'a>(words: &[&'a [u8]], k: usize) -> &'a [u8]
+pub fn word_at<'a>(words: &[&'a [u8]], k: usize) -> &'a [u8]
     ensures { result.now ≡ slice_index_or (words_seen words.now) k [] }
 {
     match words.get(k) {

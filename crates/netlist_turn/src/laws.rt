@@ -3,12 +3,15 @@
 ghost use Rattle.netlist_turn.specs.CardLaw.{CardTextLaw, CardTokensLaw};
 ghost use Rattle.netlist_turn.specs.DeviceLaw.{DeviceReadLaw, DeviceTextLaw};
 ghost use Rattle.netlist_turn.specs.KeptLaw.{KeptCardsLaw, KeptStartLaw};
-ghost use Rattle.netlist_turn.specs.ScaleLaw.{ProductLaw, WrittenSizeLaw};
+ghost use Rattle.netlist_turn.specs.ScaleLaw.{ProductLaw, SquareLaw, WrittenAreaLaw, WrittenSizeLaw};
 
-/// A size by the scale is exactly the product, and what is written of it is read as that size.
+/// A length by the scale is exactly the product, an area by the scale is exactly the product with the
+/// scale's square, and what is written of them is read as that size.
 pub fn scale_laws()
     ensures product { ProductLaw }
     ensures written { WrittenSizeLaw }
+    ensures squared { SquareLaw }
+    ensures written_area { WrittenAreaLaw }
 {}
 
 /// The line that is written of a kept card is its first word, the words of it that say something,

@@ -7,6 +7,7 @@ mod laws;
 mod listed;
 mod listing;
 mod made;
+mod marked;
 mod rows;
 mod scale;
 mod settings;

@@ -1,4 +1,4 @@
-//! Cards that are made of calls of listed names.
+//! Cards that are made of cards of listed names.
 
 ghost use Rattle.std.specs.Prelude.{◌≡◌, IfErr, IfOk, Ok, OnOk, Some, codes};
 ghost use Rattle.std.specs.Option.{option_copied};
@@ -6,37 +6,56 @@ ghost use Rattle.spice_cards.specs.Parts.{words_of};
 ghost use Rattle.spice_cards.specs.Seen.{param_seen, params_seen, tokens_seen, words_seen};
 ghost use Rattle.std.specs.List.{count_by};
 ghost use Rattle.netlist_turn.specs.CardLaw.{kept_words};
-ghost use Rattle.netlist_turn.specs.Devices.{called_name as name_called, device_params};
-ghost use Rattle.netlist_turn.specs.Devices.{stands_for};
+ghost use Rattle.netlist_turn.specs.Devices.{device_params, stands_for};
 ghost use Rattle.netlist_turn.specs.DevicesSeen.{device_seen, keys_seen};
 ghost use Rattle.netlist_turn.specs.Listed.{count_text, device_for, device_made, device_told};
 ghost use Rattle.netlist_turn.specs.Listed.{has_odd, has_odd_count, is_manifold, is_odd};
-ghost use Rattle.netlist_turn.specs.Listed.{params_told, words_told};
+ghost use Rattle.netlist_turn.specs.Listed.{has_nets, has_number, is_of_other, may_be_listed};
+ghost use Rattle.netlist_turn.specs.Listed.{model_of, number_told, params_told, prefix, words_told};
+ghost use Rattle.netlist_turn.specs.Made.{writing};
 ghost use Rattle.netlist_turn.specs.Seen.{seen, SaysFault};
-ghost use Rattle.netlist_turn.specs.Turning.{device_by, device_said, device_taken};
-ghost use Rattle.netlist_turn.specs.Turning.{is_area_scaled};
-ghost use Rattle.netlist_turn.specs.declared.rows.Row.TheVariants.{Call};
+ghost use Rattle.netlist_turn.specs.Turning.{device_by, device_netted, device_said, device_taken};
 
 use crate::device::{
-    Device, Key, called_name, device_params, device_words, is_written, key_of, stands_for,
+    Device, Key, called_name, device_params, device_words, is_written, key_of, stands_for, word_at,
 };
 use crate::fault::TurnFault;
 use crate::made::{Head, Kind, Turned};
-use crate::rows::{Row, left_out};
+use crate::rows::{Row, begin, left_out};
 use crate::settings::{Settings, device_for, has_stuck, text_for};
+use crate::words::is_number;
 use plain_netlist::DeviceKind;
 use spice_cards::{Param, Token, read_params, read_words};
 use spice_rows::letter;
 use std::alloc::{AllocError, Global};
 
-// The words of a call that say something.
-fn kept_words<'a>(alloc: Global, words: &[&'a [u8]]) -> Result<Vec<&'a [u8]>, AllocError>
-    ensures { IfOk result (λ ws. words_seen ws.items ≡ kept_words Call (words_seen words.now)) }
+/// Whether a card may be of a listed name.
+pub fn may_be_listed(row: Row) -> bool
+    ensures { result ≡ may_be_listed row }
+{
+    match row {
+        Row::Call => true,
+        Row::Device => true,
+        Row::Resistor => true,
+        Row::Capacitor => true,
+        Row::Diode => true,
+        Row::Foreign => true,
+        _ => false,
+    }
+}
+
+/// The words of a card that say something.
+pub fn kept_words<'a>(
+    alloc: Global,
+    row: Row,
+    words: &[&'a [u8]],
+) -> Result<Vec<&'a [u8]>, AllocError>
+    ensures { IfOk result (λ ws. words_seen ws.items ≡ kept_words row (words_seen words.now)) }
 {
     let mut kept = Vec::new(alloc);
     let mut rest = words;
     'words: while let [word, more @ ..] = rest {
-        match left_out(Row::Call, word, more) {
+        match left_out(row, word, more) {
             None => kept.push(*word)?,
             Some(_) => {}
         }
@@ -45,19 +64,69 @@ fn kept_words<'a>(alloc: Global, words: &[&'a [u8]]) -> Result<Vec<&'a [u8]>, Al
     Ok(kept)
 }
 
-/// What the name that a call's tokens call is listed as.
+// The name: a call's last word, and of another card the last behind two nets.
+#[tactic(auto, using(crate::proofs::DeviceLemmas::words_long))]
+fn model_of<'a>(row: Row, words: &[&'a [u8]]) -> &'a [u8]
+    ensures { result.now ≡ model_of row (words_seen words.now) }
+{
+    match row {
+        Row::Call => called_name(words),
+        _ => {
+            if words.len() > 2 {
+                called_name(words)
+            } else {
+                b""
+            }
+        }
+    }
+}
+
+/// What the name of a card of this row and these tokens behind its first word is listed as.
 pub fn called_device<'a>(
     alloc: Global,
     settings: &'a Settings,
+    row: Row,
     behind: &[Token],
 ) -> Result<Option<&'a Device>, AllocError>
     ensures { IfOk result (λ d. option_copied d ≡ device_for settings.now
-        (name_called (kept_words Call (words_of (tokens_seen behind.now))))) }
+        (model_of row (kept_words row (words_of (tokens_seen behind.now))))) }
 {
     let mut words = Vec::new(alloc);
     let _rest = read_words(&mut words, behind)?;
-    let kept = kept_words(alloc, &words)?;
-    device_for(alloc, settings, called_name(&kept))
+    let kept = kept_words(alloc, row, &words)?;
+    device_for(alloc, settings, model_of(row, &kept))
+}
+
+// Whether a card that is no call has the letter of another kind.
+fn is_of_other(row: Row, kind: DeviceKind, first: &[u8]) -> bool
+    ensures { result ≡ is_of_other row kind first.now }
+{
+    match row {
+        Row::Call => false,
+        _ => begin(first) != letter(kind),
+    }
+}
+
+// Whether a resistor's words have a number between its nets and its name.
+#[tactic(auto, using(crate::proofs::DeviceLemmas::words_long))]
+fn has_number(row: Row, device: &Device, words: &[&[u8]]) -> bool
+    ensures { result ≡ has_number row (device_seen device.now) (words_seen words.now) }
+{
+    match row {
+        Row::Resistor => {
+            let places = device.places.len();
+            words.len() == places + 2 && is_number(word_at(words, places))
+        }
+        _ => false,
+    }
+}
+
+// Whether the words are a net for each terminal, and the name.
+#[tactic(auto, using(crate::proofs::DeviceLemmas::words_long))]
+fn has_nets(row: Row, device: &Device, words: &[&[u8]]) -> bool
+    ensures { result ≡ has_nets row (device_seen device.now) (words_seen words.now) }
+{
+    words.len() == device.places.len() + 1 || has_number(row, device, words)
 }
 
 // How many devices a call says.
@@ -151,25 +220,41 @@ fn has_odd_count<'a>(
     has_odd(alloc, settings, keys, count, params)
 }
 
-fn is_area_scaled(settings: &Settings, kind: DeviceKind) -> bool
-    ensures { result ≡ is_area_scaled settings.now kind }
-{
-    matches!(kind, DeviceKind::Diode) && settings.scale.is_some()
-}
-
-fn tell_words<'a>(made: &mut Turned<'a>, line: u64, words: &[&'a [u8]]) -> Result<(), AllocError>
+/// Tells the words of a card that say nothing.
+pub fn tell_words<'a>(
+    made: &mut Turned<'a>,
+    row: Row,
+    line: u64,
+    words: &[&'a [u8]],
+) -> Result<(), AllocError>
     ensures { OnOk result
-        (seen made.new ≡ words_told (seen made.old) line (words_seen words.now)) }
+        (seen made.new ≡ words_told row (seen made.old) line (words_seen words.now)) }
 {
     let mut rest = words;
     'words: while let [word, more @ ..] = rest {
-        match left_out(Row::Call, word, more) {
+        match left_out(row, word, more) {
             None => {}
             Some(kind) => made.tell(line, kind, *word)?,
         }
         rest = more;
     }
     Ok(())
+}
+
+fn tell_number<'a>(
+    made: &mut Turned<'a>,
+    row: Row,
+    line: u64,
+    device: &Device,
+    words: &[&'a [u8]],
+) -> Result<(), AllocError>
+    ensures { OnOk result (seen made.new ≡ number_told row (device_seen device.now)
+        (seen made.old) line (words_seen words.now)) }
+{
+    if !has_number(row, device, words) {
+        return Ok(());
+    }
+    made.tell(line, Kind::Number, word_at(words, device.places.len()))
 }
 
 fn tell_params<'a>(
@@ -192,24 +277,40 @@ fn tell_params<'a>(
     Ok(())
 }
 
-// Tells what of a call isn't in its device's card, and that it is one, and begins the card.
+// The letter that comes before a call's first word.
+fn push_prefix(made: &mut Turned, row: Row, kind: DeviceKind) -> Result<(), AllocError>
+    ensures { OnOk result (seen made.new ≡ writing (seen made.old) (prefix row kind)) }
+{
+    match row {
+        Row::Call => made.write(&[letter(kind)]),
+        _ => made.write(b""),
+    }
+}
+
+// Tells what of a card isn't in its device's card, and that it is one, and begins the card.
 fn tell_device<'a>(
     made: &mut Turned<'a>,
-    line: u64,
+    head: Head<'a>,
     kind: DeviceKind,
     device: &Device,
     words: &[&'a [u8]],
     kept: &[&'a [u8]],
     params: &[Param<'a>],
 ) -> Result<(), AllocError>
-    requires { words_seen kept.now ≡ kept_words Call (words_seen words.now) }
-    ensures { OnOk result (seen made.new ≡ device_told kind (device_seen device.now)
-        (seen made.old) line (words_seen words.now) (params_seen params.now)) }
+    requires { words_seen kept.now ≡ kept_words head.row (words_seen words.now) }
+    ensures { OnOk result (seen made.new ≡ device_told head.entry.row kind (device_seen device.now)
+        (seen made.old) head.entry.line (words_seen words.now) (params_seen params.now)) }
 {
-    tell_words(made, line, words)?;
+    let Head {
+        line,
+        row,
+        first: _,
+    } = head;
+    tell_words(made, row, line, words)?;
+    tell_number(made, row, line, device, kept)?;
     tell_params(made, line, kind, device.keys.as_slice(), params)?;
     made.tell(line, Kind::Device, called_name(kept))?;
-    made.write(&[letter(kind)])
+    push_prefix(made, row, kind)
 }
 
 // Adds the card of a call's device.
@@ -217,8 +318,7 @@ fn push_device<'a>(
     alloc: Global,
     settings: &'a Settings,
     made: &mut Turned<'a>,
-    line: u64,
-    first: &'a [u8],
+    head: Head<'a>,
     kind: DeviceKind,
     device: &'a Device,
     words: &[&'a [u8]],
@@ -226,29 +326,29 @@ fn push_device<'a>(
     params: &[Param<'a>],
     said: &[Param<'a>],
 ) -> Result<(), AllocError>
-    requires kept { words_seen kept.now ≡ kept_words Call (words_seen words.now) }
+    requires kept { words_seen kept.now ≡ kept_words head.row (words_seen words.now) }
     requires said { params_seen said.now
         ≡ device_params kind (device_seen device.now).keys (params_seen params.now) }
-    ensures { OnOk result (seen made.new ≡ device_made settings.now kind (device_seen device.now)
-        (seen made.old) line first.now (words_seen words.now) (params_seen params.now)) }
+    ensures { OnOk result (seen made.new ≡ device_made settings.now head.entry.row kind
+        (device_seen device.now) (seen made.old) head.entry.line head.entry.first.now
+        (words_seen words.now) (params_seen params.now)) }
 {
-    tell_device(made, line, kind, device, words, kept, params)?;
+    tell_device(made, head, kind, device, words, kept, params)?;
     let nets = device_words(alloc, device, kept)?;
-    let head = Head {
-        line,
+    let listed = Head {
+        line: head.line,
         row: Row::Listed,
-        first,
+        first: head.first,
     };
-    made.push_card(alloc, settings, head, &nets, said)
+    made.push_card(alloc, settings, listed, &nets, said)
 }
 
-// Takes a call whose card has these parameters.
+// Takes a card that is made with these parameters.
 fn take_said<'a>(
     alloc: Global,
     settings: &'a Settings,
     made: &mut Turned<'a>,
-    line: u64,
-    first: &'a [u8],
+    head: Head<'a>,
     kind: DeviceKind,
     device: &'a Device,
     words: &[&'a [u8]],
@@ -256,90 +356,109 @@ fn take_said<'a>(
     params: &[Param<'a>],
     said: &[Param<'a>],
 ) -> Result<(), TurnFault>
-    requires kept { words_seen kept.now ≡ kept_words Call (words_seen words.now) }
+    requires kept { words_seen kept.now ≡ kept_words head.row (words_seen words.now) }
     requires said { params_seen said.now
         ≡ device_params kind (device_seen device.now).keys (params_seen params.now) }
-    ensures made { OnOk result (device_said settings.now kind (device_seen device.now)
-        (seen made.old) line first.now (words_seen words.now) (params_seen params.now)
+    ensures made { OnOk result (device_said settings.now head.entry.row kind (device_seen device.now)
+        (seen made.old) head.entry.line head.entry.first.now (words_seen words.now) (params_seen params.now)
         ≡ Ok (seen made.new)) }
-    ensures fault { IfErr result (λ e. SaysFault e (device_said settings.now kind
-        (device_seen device.now) (seen made.old) line first.now (words_seen words.now)
+    ensures fault { IfErr result (λ e. SaysFault e (device_said settings.now head.entry.row kind
+        (device_seen device.now) (seen made.old) head.entry.line head.entry.first.now (words_seen words.now)
         (params_seen params.now))) }
 {
-    if is_area_scaled(settings, kind) {
-        return Err(TurnFault::Unscaled(line));
-    }
     if has_stuck(alloc, settings, Row::Listed, said)? {
-        return Err(TurnFault::Unscaled(line));
+        return Err(TurnFault::Unscaled(head.line));
     }
     push_device(
-        alloc, settings, made, line, first, kind, device, words, kept, params, said,
+        alloc, settings, made, head, kind, device, words, kept, params, said,
     )?;
     Ok(())
 }
 
-// Takes a call of a device of this kind.
+// Takes a card of a device of this kind, whose letter it has.
 #[tactic(auto, using(crate::proofs::DeviceLemmas::words_long))]
-fn take_kind<'a>(
+fn take_netted<'a>(
     alloc: Global,
     settings: &'a Settings,
     made: &mut Turned<'a>,
-    line: u64,
-    first: &'a [u8],
+    head: Head<'a>,
     kind: DeviceKind,
     device: &'a Device,
     words: &[&'a [u8]],
     params: &[Param<'a>],
 ) -> Result<(), TurnFault>
-    ensures made { OnOk result (device_by settings.now (device_seen device.now) (seen made.old)
-        line first.now (words_seen words.now) (params_seen params.now) (Some kind)
-        ≡ Ok (seen made.new)) }
-    ensures fault { IfErr result (λ e. SaysFault e (device_by settings.now (device_seen device.now)
-        (seen made.old) line first.now (words_seen words.now) (params_seen params.now)
-        (Some kind))) }
+    ensures made { OnOk result (device_netted settings.now head.entry.row kind (device_seen device.now)
+        (seen made.old) head.entry.line head.entry.first.now (words_seen words.now)
+        (params_seen params.now) ≡ Ok (seen made.new)) }
+    ensures fault { IfErr result (λ e. SaysFault e (device_netted settings.now head.entry.row
+        kind (device_seen device.now) (seen made.old) head.entry.line head.entry.first.now
+        (words_seen words.now) (params_seen params.now))) }
 {
     let keys = device.keys.as_slice();
-    let kept = kept_words(alloc, words)?;
-    if kept.len() != device.places.len() + 1 {
-        return Err(TurnFault::DeviceNets(line));
+    let kept = kept_words(alloc, head.row, words)?;
+    if !has_nets(head.row, device, &kept) {
+        return Err(TurnFault::DeviceNets(head.line));
     }
     if has_odd_count(alloc, settings, keys, params)? {
-        return Err(TurnFault::OddCount(line));
+        return Err(TurnFault::OddCount(head.line));
     }
     let said = device_params(alloc, kind, keys, params)?;
     take_said(
-        alloc, settings, made, line, first, kind, device, words, &kept, params, &said,
+        alloc, settings, made, head, kind, device, words, &kept, params, &said,
     )
 }
 
-/// Takes a call of a listed name, of this first word and the tokens behind it. Linear in it.
+// Takes a card of a device of this kind.
+fn take_kind<'a>(
+    alloc: Global,
+    settings: &'a Settings,
+    made: &mut Turned<'a>,
+    head: Head<'a>,
+    kind: DeviceKind,
+    device: &'a Device,
+    words: &[&'a [u8]],
+    params: &[Param<'a>],
+) -> Result<(), TurnFault>
+    ensures made { OnOk result (device_by settings.now head.entry.row (device_seen device.now)
+        (seen made.old) head.entry.line head.entry.first.now (words_seen words.now)
+        (params_seen params.now) (Some kind) ≡ Ok (seen made.new)) }
+    ensures fault { IfErr result (λ e. SaysFault e (device_by settings.now head.entry.row
+        (device_seen device.now) (seen made.old) head.entry.line head.entry.first.now
+        (words_seen words.now) (params_seen params.now) (Some kind))) }
+{
+    if is_of_other(head.row, kind, head.first) {
+        return Err(TurnFault::UnknownCard(head.line));
+    }
+    take_netted(alloc, settings, made, head, kind, device, words, params)
+}
+
+/// Takes a card of a listed name, which begins so, and of which these tokens stand behind its first
+/// word. Linear in it.
 pub fn take_device<'a>(
     alloc: Global,
     settings: &'a Settings,
     made: &mut Turned<'a>,
-    line: u64,
-    first: &'a [u8],
+    head: Head<'a>,
     device: &'a Device,
     behind: &[Token<'a>],
 ) -> Result<(), TurnFault>
-    ensures made { OnOk result (device_taken settings.now (device_seen device.now) (seen made.old)
-        line first.now (tokens_seen behind.now) ≡ Ok (seen made.new)) }
-    ensures fault { IfErr result (λ e. SaysFault e (device_taken settings.now
-        (device_seen device.now) (seen made.old) line first.now (tokens_seen behind.now))) }
+    ensures made { OnOk result (device_taken settings.now head.entry.row (device_seen device.now)
+        (seen made.old) head.entry.line head.entry.first.now (tokens_seen behind.now) ≡ Ok (seen made.new)) }
+    ensures fault { IfErr result (λ e. SaysFault e (device_taken settings.now head.entry.row
+        (device_seen device.now) (seen made.old) head.entry.line head.entry.first.now
+        (tokens_seen behind.now))) }
 {
     let mut words = Vec::new(alloc);
     let mut params = Vec::new(alloc);
     let rest = read_words(&mut words, behind)?;
     if !read_params(&mut params, rest)? {
-        return Err(TurnFault::BadForm(line));
+        return Err(TurnFault::BadForm(head.line));
     }
     match device.kind {
         None => {
-            made.tell(line, Kind::Card, first)?;
+            made.tell(head.line, Kind::Card, head.first)?;
             Ok(())
         }
-        Some(kind) => take_kind(
-            alloc, settings, made, line, first, kind, device, &words, &params,
-        ),
+        Some(kind) => take_kind(alloc, settings, made, head, kind, device, &words, &params),
     }
 }

@@ -3,7 +3,7 @@
 ghost use Rattle.std.specs.Prelude.{◌≡◌, OnOk};
 
 use crate::rows::{Row, is_kept_key, left_out};
-use crate::scale::{push_micros, scaled};
+use crate::scale::{Factor, push_size, scaled};
 use crate::settings::{Settings, factor_at, meant, value_for};
 use crate::words::{has_escape, unquoted};
 use spice_cards::Param;
@@ -28,8 +28,12 @@ pub enum Kind {
     Name,
     /// A size is turned by the scale.
     Size,
-    /// A call of a listed name is a device.
+    /// A card of a listed name is a device.
     Device,
+    /// A number behind a card's nets or words is left out.
+    Number,
+    /// What `$` marks stands where it does on other cards.
+    Marked,
 }
 
 /// A change: the line of its card, what it is, and the word that stood there.
@@ -74,7 +78,7 @@ impl<'a> Turned<'a> {
     ghost use Rattle.netlist_turn.specs.Made.{card_made, line_made, param_made, params_made};
     ghost use Rattle.netlist_turn.specs.Made.{by_factor, naming, size_made, telling, unquoting};
     ghost use Rattle.netlist_turn.specs.Made.{value_made, word_made, word_or, words_made, writing};
-    ghost use Rattle.netlist_turn.specs.Scale.{micro_text, scaled};
+    ghost use Rattle.netlist_turn.specs.Scale.{scaled, size_text};
     ghost use Rattle.netlist_turn.specs.Seen.{seen};
     ghost use Rattle.netlist_turn.specs.Turning.{nothing};
 
@@ -168,10 +172,10 @@ impl<'a> Turned<'a> {
         }
     }
 
-    fn push_size(&mut self, alloc: Global, n: u128) -> Result<(), AllocError>
-        ensures { OnOk result (seen self.new ≡ writing (seen self.old) (micro_text n)) }
+    fn push_size(&mut self, alloc: Global, factor: Factor, n: u128) -> Result<(), AllocError>
+        ensures { OnOk result (seen self.new ≡ writing (seen self.old) (size_text factor n)) }
     {
-        push_micros(alloc, &mut self.text, n)
+        push_size(alloc, &mut self.text, factor, n)
     }
 
     fn push_by_factor(
@@ -180,17 +184,17 @@ impl<'a> Turned<'a> {
         line: u64,
         key: &'a [u8],
         text: &[u8],
-        factor: Option<u128>,
+        factor: Option<Factor>,
     ) -> Result<(), AllocError>
         ensures { OnOk result
             (seen self.new ≡ by_factor (seen self.old) line key.now text.now factor) }
     {
-        let Some(scale) = factor else {
+        let Some(factor) = factor else {
             return self.write(text);
         };
-        match scaled(scale, text) {
+        match scaled(factor, text) {
             Ok(n) => {
-                self.push_size(alloc, n)?;
+                self.push_size(alloc, factor, n)?;
                 self.tell(line, Kind::Size, key)
             }
             Err(_) => self.write(text),

@@ -8,13 +8,14 @@ ghost use Rattle.spice_rows.specs.Rows.{begin};
 ghost use Rattle.std.specs.Prelude.{codes};
 ghost use Rattle.spice_rows.specs.Names.{is_text};
 ghost use Rattle.netlist_turn.specs.Words.{is_circuit_end, is_edge_key, is_kept_key, is_none};
-ghost use Rattle.netlist_turn.specs.Words.{is_passed_word, is_size_key};
+ghost use Rattle.netlist_turn.specs.Words.{is_analysis_word, is_output_word, is_passed_word};
+ghost use Rattle.netlist_turn.specs.Words.{is_area_key, is_size_key, last_number};
 ghost use Rattle.netlist_turn.specs.Words.{left_out, row_of};
 ghost use Rattle.netlist_turn.specs.Words.{changes_sizes, has_size_option, is_option};
 ghost use Rattle.netlist_turn.specs.Words.{is_size_option};
 
 use crate::made::Kind;
-use crate::words::{folded_byte, is_params, is_text};
+use crate::words::{folded_byte, is_number, is_params, is_text};
 use spice_cards::Token;
 
 /// A kind of card.
@@ -34,6 +35,9 @@ pub enum Row {
     Passed,
     Capacitor,
     Resistor,
+    Diode,
+    /// A bipolar transistor or an inductor, which are of no kind.
+    Foreign,
     Unknown,
 }
 
@@ -90,6 +94,34 @@ pub fn changes_sizes(first: &[u8], behind: &[Token]) -> bool
     is_option(first) && has_size_option(behind)
 }
 
+// A first word of cards that say what a simulator computes.
+fn is_analysis_word(word: &[u8]) -> bool
+    ensures { result ≡ is_analysis_word word.now }
+{
+    is_text(word, b".TRAN")
+        || is_text(word, b".AC")
+        || is_text(word, b".DC")
+        || is_text(word, b".OP")
+        || is_text(word, b".NOISE")
+        || is_text(word, b".FOUR")
+        || is_text(word, b".IC")
+        || is_text(word, b".NODESET")
+}
+
+// And of cards that say what it tells.
+fn is_output_word(word: &[u8]) -> bool
+    ensures { result ≡ is_output_word word.now }
+{
+    is_text(word, b".SAVE")
+        || is_text(word, b".PRINT")
+        || is_text(word, b".PLOT")
+        || is_text(word, b".PROBE")
+        || is_text(word, b".MEAS")
+        || is_text(word, b".MEASURE")
+        || is_text(word, b".WIDTH")
+        || is_text(word, b".TITLE")
+}
+
 fn is_passed_word(word: &[u8]) -> bool
     ensures { result ≡ is_passed_word word.now }
 {
@@ -103,9 +135,12 @@ fn is_passed_word(word: &[u8]) -> bool
         || is_option(word)
         || is_text(word, b".TEMP")
         || is_text(word, b".END")
+        || is_analysis_word(word)
+        || is_output_word(word)
 }
 
-fn begin(word: &[u8]) -> u8
+/// The first letter, folded.
+pub fn begin(word: &[u8]) -> u8
     ensures { result ≡ begin word.now }
 {
     folded_byte(if word.is_empty() { 0 } else { word[0] })
@@ -126,6 +161,12 @@ pub fn row_of(first: &[u8]) -> Row
     }
     if begin(first) == b'R' {
         return Row::Resistor;
+    }
+    if begin(first) == b'D' {
+        return Row::Diode;
+    }
+    if begin(first) == b'Q' || begin(first) == b'L' {
+        return Row::Foreign;
     }
     if is_text(first, b".SUBCKT") {
         return Row::Opening;
@@ -152,6 +193,16 @@ fn is_circuit_end(words: &[&[u8]]) -> bool
     }
 }
 
+fn last_number(word: &[u8], behind: &[&[u8]]) -> Option<Kind>
+    ensures { result ≡ last_number word.now (words_seen behind.now) }
+{
+    if behind.is_empty() && is_number(word) {
+        Some(Kind::Number)
+    } else {
+        None
+    }
+}
+
 /// What a word is that says nothing, by the words behind it.
 pub fn left_out(row: Row, word: &[u8], behind: &[&[u8]]) -> Option<Kind>
     ensures { result ≡ left_out row word.now (words_seen behind.now) }
@@ -172,6 +223,9 @@ pub fn left_out(row: Row, word: &[u8], behind: &[&[u8]]) -> Option<Kind>
             }
             None
         }
+        Row::Resistor => last_number(word, behind),
+        Row::Capacitor => last_number(word, behind),
+        Row::Foreign => last_number(word, behind),
         _ => None,
     }
 }
@@ -204,18 +258,33 @@ pub fn is_kept_key(has_scale: bool, row: Row, key: &[u8]) -> bool
     match row {
         Row::Device => is_text(key, b"M") || is_device_key(key) && !(has_scale && is_edge_key(key)),
         Row::Call => is_text(key, b"M"),
+        Row::Resistor => is_text(key, b"M") || is_text(key, b"L") || is_text(key, b"W"),
+        Row::Diode => is_text(key, b"M") || is_text(key, b"P") || is_text(key, b"A"),
         Row::Opening => false,
         _ => true,
     }
 }
 
-/// Whether a parameter of this name is a size that the scale turns.
+/// Whether a parameter of this name is a length that the scale turns.
 pub fn is_size_key(row: Row, key: &[u8]) -> bool
     ensures { result ≡ is_size_key row key.now }
 {
     match row {
         Row::Device => is_text(key, b"L") || is_text(key, b"W"),
+        Row::Resistor => is_text(key, b"L") || is_text(key, b"W"),
+        Row::Diode => is_text(key, b"P"),
         Row::Listed => is_text(key, b"L") || is_text(key, b"W") || is_text(key, b"P"),
+        _ => false,
+    }
+}
+
+/// Whether a parameter of this name is an area, which the scale turns twice.
+pub fn is_area_key(row: Row, key: &[u8]) -> bool
+    ensures { result ≡ is_area_key row key.now }
+{
+    match row {
+        Row::Diode => is_text(key, b"A"),
+        Row::Listed => is_text(key, b"A"),
         _ => false,
     }
 }

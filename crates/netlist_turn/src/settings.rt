@@ -5,14 +5,14 @@ ghost use Rattle.spice_cards.specs.Seen.{param_seen, params_seen, words_seen};
 ghost use Rattle.net_names.specs.Folding.{folded_bytes};
 ghost use Rattle.text_table.specs.Texts.{place_of};
 ghost use Rattle.std.specs.Option.{option_copied};
-ghost use Rattle.netlist_turn.specs.Made.{factor_at, has_shadow, has_stuck, is_left, is_stuck};
-ghost use Rattle.netlist_turn.specs.Made.{meant, value_for};
+ghost use Rattle.netlist_turn.specs.Made.{by_scale, factor_at, has_shadow, has_stuck, is_left};
+ghost use Rattle.netlist_turn.specs.Made.{is_stuck, meant, value_for};
 ghost use Rattle.netlist_turn.specs.Listed.{device_for, text_for};
 ghost use Rattle.netlist_turn.specs.Words.{unquoted};
 
 use crate::device::Device;
-use crate::rows::{Row, is_size_key};
-use crate::scale::is_unscaled;
+use crate::rows::{Row, is_area_key, is_size_key};
+use crate::scale::{Factor, is_unscaled};
 use crate::words::{folded, unquoted};
 use spice_cards::Param;
 use std::alloc::{AllocError, Global};
@@ -97,12 +97,23 @@ pub fn meant<'a>(plain: &'a [u8], found: Option<&'a Vec<u8>>) -> &'a [u8]
     }
 }
 
-/// The scale, for a size.
-pub fn factor_at(settings: &Settings, row: Row, key: &[u8]) -> Option<u128>
+fn by_scale(is_twice: bool, scale: Option<u128>) -> Option<Factor>
+    ensures { result ≡ by_scale is_twice scale }
+{
+    match scale {
+        None => None,
+        Some(scale) => Some(Factor { scale, is_twice }),
+    }
+}
+
+/// The scale, once for a length, twice for an area.
+pub fn factor_at(settings: &Settings, row: Row, key: &[u8]) -> Option<Factor>
     ensures { result ≡ factor_at settings.now row key.now }
 {
     if is_size_key(row, key) {
-        settings.scale
+        by_scale(false, settings.scale)
+    } else if is_area_key(row, key) {
+        by_scale(true, settings.scale)
     } else {
         None
     }

@@ -8,15 +8,19 @@ ghost use Rattle.netlist_turn.specs.Seen.{seen, SaysFault};
 ghost use Rattle.netlist_turn.specs.Turning.{after, by_fate, card_taken, drops_if, end_fate};
 ghost use Rattle.netlist_turn.specs.Turning.{fate_of, is_opening, is_out, left_at, moved, open_fate};
 ghost use Rattle.netlist_turn.specs.Turning.{device_at, opened, plain_taken, turned, turning};
-ghost use Rattle.netlist_turn.specs.Turning.{word_taken};
+ghost use Rattle.netlist_turn.specs.Turning.{first_taken, is_dropped, is_marked, is_sought};
+ghost use Rattle.netlist_turn.specs.Turning.{is_unclear, ordered_taken, row_taken};
+ghost use Rattle.netlist_turn.specs.Words.{row_of};
 ghost use Rattle.std.specs.Option.{option_copied};
 
-use crate::device::Device;
+use crate::device::{Device, word_at};
 use crate::fault::TurnFault;
-use crate::listed::{called_device, take_device};
+use crate::listed::{called_device, may_be_listed, take_device};
 use crate::made::{Head, Kind, Turned, Where};
+use crate::marked::{has_marks, order};
 use crate::rows::{Row, changes_sizes, row_of};
 use crate::settings::{Settings, has_shadow, has_stuck, is_left};
+use crate::words::is_number;
 use spice_cards::{CardReader, Token, read_params, read_words};
 use std::alloc::{AllocError, Global};
 
@@ -76,7 +80,9 @@ fn fate_of(settings: &Settings, at: Where, row: Row, left: bool) -> Fate
         Row::Plain => Fate::Keeps,
         Row::Passed => Fate::Drops,
         Row::Capacitor => drops_if(out || settings.capacitors, Fate::Refuses),
-        Row::Resistor => drops_if(out || settings.resistors, Fate::Refuses),
+        Row::Resistor => drops_if(out || settings.resistors, Fate::Keeps),
+        Row::Diode => drops_if(out, Fate::Keeps),
+        Row::Foreign => drops_if(out, Fate::Refuses),
         Row::Unknown => drops_if(out, Fate::Refuses),
         Row::Listed => Fate::Refuses,
     }
@@ -89,6 +95,16 @@ fn after(at: Where, row: Row, left: bool) -> Where
         Row::Opening => { if left { Where::Left } else { Where::Kept } }
         Row::Ending => Where::Outside,
         _ => at,
+    }
+}
+
+// Whether a resistor's third word is a number, so that it may be its bulk or its value.
+fn is_unclear(row: Row, words: &[&[u8]]) -> bool
+    ensures { result ≡ is_unclear row (words_seen words.now) }
+{
+    match row {
+        Row::Resistor => is_number(word_at(words, 2)),
+        _ => false,
     }
 }
 
@@ -133,6 +149,9 @@ fn take_by_fate<'a>(
             if is_opening(row) && has_shadow(alloc, settings, &params)? {
                 return Err(TurnFault::Shadowed(line));
             }
+            if is_unclear(row, &words) {
+                return Err(TurnFault::UnknownCard(line));
+            }
             if has_stuck(alloc, settings, row, &params)? {
                 return Err(TurnFault::Unscaled(line));
             }
@@ -167,7 +186,20 @@ fn left_of(alloc: Global, settings: &Settings, tokens: &[Token]) -> Result<bool,
     is_left(alloc, settings, &words)
 }
 
-// What a card of this row calls, where it is a listed name, and the card isn't left out.
+fn is_dropped(fate: Fate) -> bool
+    ensures { result ≡ is_dropped fate }
+{
+    matches!(fate, Fate::Drops)
+}
+
+// Whether a card isn't left out, and may be of a listed name.
+fn is_sought(settings: &Settings, at: Where, row: Row) -> bool
+    ensures { result ≡ is_sought settings.now at row }
+{
+    may_be_listed(row) && !is_dropped(fate_of(settings, at, row, false))
+}
+
+// What a card of this row is listed as, where it isn't left out.
 #[tactic(auto, using(crate::proofs::TakenLemmas::no_devices))]
 fn device_at<'a>(
     alloc: Global,
@@ -179,38 +211,32 @@ fn device_at<'a>(
     ensures { IfOk result (λ d. option_copied d
         ≡ device_at settings.now at row (tokens_seen tokens.now)) }
 {
-    match row {
-        Row::Call => {
-            if is_out(settings, at) || settings.devices.len() == 0 {
-                return Ok(None);
-            }
-            called_device(alloc, settings, tokens)
-        }
-        _ => Ok(None),
+    if settings.devices.len() == 0 || !is_sought(settings, at, row) {
+        return Ok(None);
     }
+    called_device(alloc, settings, row, tokens)
 }
 
-// Takes a card of this first word and the tokens behind it.
-fn take_word<'a>(
+// Takes a card that begins so, and the tokens behind its first word.
+fn take_row<'a>(
     alloc: Global,
     settings: &'a Settings,
     made: &mut Turned<'a>,
-    line: u64,
-    first: &'a [u8],
+    head: Head<'a>,
     behind: &[Token<'a>],
 ) -> Result<(), TurnFault>
-    ensures made { OnOk result (word_taken settings.now (seen made.old) line first.now
-        (tokens_seen behind.now) ≡ Ok (seen made.new)) }
-    ensures fault { IfErr result (λ e. SaysFault e (word_taken settings.now (seen made.old) line
-        first.now (tokens_seen behind.now))) }
+    ensures made { OnOk result (row_taken settings.now head.entry.row (seen made.old)
+        head.entry.line head.entry.first.now (tokens_seen behind.now) ≡ Ok (seen made.new)) }
+    ensures fault { IfErr result (λ e. SaysFault e (row_taken settings.now head.entry.row
+        (seen made.old) head.entry.line head.entry.first.now (tokens_seen behind.now))) }
 {
-    match device_at(alloc, settings, made.at, row_of(first), behind)? {
-        Some(device) => take_device(alloc, settings, made, line, first, device, behind),
-        None => take_plain(alloc, settings, made, line, first, behind),
+    match device_at(alloc, settings, made.at, head.row, behind)? {
+        Some(device) => take_device(alloc, settings, made, head, device, behind),
+        None => take_plain(alloc, settings, made, head.line, head.first, behind),
     }
 }
 
-// Takes a card of this first word and the tokens behind it, which calls no listed name.
+// Takes a card of this first word and the tokens behind it, which is of no listed name.
 fn take_plain<'a>(
     alloc: Global,
     settings: &'a Settings,
@@ -230,6 +256,71 @@ fn take_plain<'a>(
     made.at = after(made.at, row, left);
     let head = Head { line, row, first };
     take_by_fate(alloc, settings, made, head, behind, fate)
+}
+
+// Whether `$` marks something on a card that isn't left out, and is no call.
+fn is_marked(settings: &Settings, at: Where, row: Row, tokens: &[Token]) -> bool
+    ensures { result ≡ is_marked settings.now at row (tokens_seen tokens.now) }
+{
+    match row {
+        Row::Call => false,
+        _ => is_sought(settings, at, row) && has_marks(tokens),
+    }
+}
+
+// Takes a card on which `$` marks something.
+#[tactic(auto, using(crate::proofs::TakenLemmas::ordered_is))]
+fn take_ordered<'a>(
+    alloc: Global,
+    settings: &'a Settings,
+    made: &mut Turned<'a>,
+    head: Head<'a>,
+    behind: &[Token<'a>],
+) -> Result<(), TurnFault>
+    ensures made { OnOk result (ordered_taken settings.now head.entry.row (seen made.old)
+        head.entry.line head.entry.first.now (tokens_seen behind.now) ≡ Ok (seen made.new)) }
+    ensures fault { IfErr result (λ e. SaysFault e (ordered_taken settings.now head.entry.row
+        (seen made.old) head.entry.line head.entry.first.now (tokens_seen behind.now))) }
+{
+    let tokens = order(alloc, made, head, behind)?;
+    take_row(alloc, settings, made, head, &tokens)
+}
+
+// Takes a card that begins so, in the order of other cards.
+fn take_first<'a>(
+    alloc: Global,
+    settings: &'a Settings,
+    made: &mut Turned<'a>,
+    head: Head<'a>,
+    behind: &[Token<'a>],
+) -> Result<(), TurnFault>
+    ensures made { OnOk result (first_taken settings.now head.entry.row (seen made.old)
+        head.entry.line head.entry.first.now (tokens_seen behind.now) ≡ Ok (seen made.new)) }
+    ensures fault { IfErr result (λ e. SaysFault e (first_taken settings.now head.entry.row
+        (seen made.old) head.entry.line head.entry.first.now (tokens_seen behind.now))) }
+{
+    if is_marked(settings, made.at, head.row, behind) {
+        return take_ordered(alloc, settings, made, head, behind);
+    }
+    take_row(alloc, settings, made, head, behind)
+}
+
+// Takes a card of this first word and the tokens behind it.
+fn take_word<'a>(
+    alloc: Global,
+    settings: &'a Settings,
+    made: &mut Turned<'a>,
+    line: u64,
+    first: &'a [u8],
+    behind: &[Token<'a>],
+) -> Result<(), TurnFault>
+    ensures made { OnOk result (first_taken settings.now (row_of first.now) (seen made.old) line
+        first.now (tokens_seen behind.now) ≡ Ok (seen made.new)) }
+    ensures fault { IfErr result (λ e. SaysFault e (first_taken settings.now (row_of first.now)
+        (seen made.old) line first.now (tokens_seen behind.now))) }
+{
+    let row = row_of(first);
+    take_first(alloc, settings, made, Head { line, row, first }, behind)
 }
 
 // Takes a card.

@@ -5,8 +5,11 @@ ghost use Rattle.std.specs.List.{list_any};
 ghost use Rattle.net_names.specs.Folding.{folded_byte, folded_bytes};
 ghost use Rattle.netlist_lines.specs.Cleaning.{is_quote};
 ghost use Rattle.spice_rows.specs.Names.{is_text};
-ghost use Rattle.netlist_turn.specs.Words.{has_escape, is_params, is_quoted, unquoted};
+ghost use Rattle.netlist_turn.specs.Words.{has_escape, is_number, is_params, is_quoted};
+ghost use Rattle.netlist_turn.specs.Words.{unquoted};
 
+use crate::scale::value;
+use fixed_num::ValueFault;
 use std::alloc::{AllocError, Global};
 
 /// A byte with a to z made A to Z.
@@ -43,6 +46,16 @@ pub fn is_text(word: &[u8], text: &[u8]) -> bool
         right = rest;
     }
     right.is_empty()
+}
+
+/// Whether the word is a number, which may have a unit.
+pub fn is_number(word: &[u8]) -> bool
+    ensures { result ≡ is_number word.now }
+{
+    match value(word) {
+        Err(ValueFault::NotNumber) => false,
+        _ => true,
+    }
 }
 
 /// Whether a backslash stands in the word.
