@@ -9,6 +9,8 @@ use Rattle.std.specs.Option.{option_to_list}
 use Rattle.std.specs.Str.{bytes_eq}
 use Rattle.rule_lines.specs.Lines.{begins, lines_of}
 use Rattle.netlist_lines.specs.Cleaning.{with_line}
+use Rattle.netlist_lines.specs.declared.cleaning.LineFault.{LineFault}
+use Rattle.netlist_lines.specs.declared.cleaning.LineFault.TheVariants.{Open, Split}
 use Rattle.netlist_join.specs.Directives.{Directive, Nothing, Include, Section, Begins, Ends, EndsFile, Bad, directive, without_blanks}
 use Rattle.netlist_join.specs.JoinLaw.{AllThereLaw, IsPresent}
 use Rattle.netlist_join.specs.Joining.{Call, Made, Outcome, all_joined, and_then, bytes_joined, call_at, call_in, call_of, call_to, behind_line, ended, ends_file, file_ended, file_joined, freshened, joined, line_if, line_joined, lines_joined, most_deep, next, onto, pushed, said, shown, taken_in}
@@ -44,10 +46,11 @@ out_then (Err e) rest h g = h
 
 -- ---- a line
 
-onto_out : (m : Made) (at : Origin) (o : Option (List ℕ)) → IsOut (onto m at o)
+onto_out : (m : Made) (at : Origin) (o : Result (List ℕ) LineFault) → IsOut (onto m at o)
 unfolding IsOut
-onto_out m at None = tt
-onto_out m at (Some text) = tt
+onto_out m at (Err Open) = tt
+onto_out m at (Err Split) = tt
+onto_out m at (Ok text) = tt
 
 if_out : (b : Bool) (x y : Outcome) → IsOut x → IsOut y → IsOut (if b then x else y)
 if_out true x y h g = h

@@ -4,12 +4,16 @@ use Rattle.std.specs.Prelude.{ℕ, zero, suc, ◌+◌, ◌-◌, ◌^◌, ◌==�
 use Rattle.std.specs.Prelude.{slice_get, Option, Some, None, Result, Ok, Err, string_bytes, if◌then◌else◌}
 use Rattle.rule_lines.specs.Lines.{begins, lines_of}
 use Rattle.netlist_lines.specs.Cleaning.{has_comment, with_line}
+use Rattle.netlist_lines.specs.declared.cleaning.LineFault.{LineFault}
+use Rattle.netlist_lines.specs.declared.cleaning.LineFault.TheVariants.{Open, Split}
 use Rattle.netlist_join.specs.Directives.{Directive, Nothing, Include, Section, Bad, EndsFile, directive, without_blanks}
 use Rattle.netlist_join.specs.Parts.{Taking, taking_of, takes, behind}
 use Rattle.netlist_join.specs.Paths.{beside, find, text_of}
 use Rattle.netlist_join.specs.declared.files.File.{File}
 use Rattle.netlist_join.specs.declared.join.Origin.{Origin}
-use Rattle.netlist_join.specs.declared.join.Why.TheVariants.{Absent, Deep, NoSection, BadForm, OpenQuotes, EarlyMore}
+use Rattle.netlist_join.specs.declared.join.Why.{Why}
+use Rattle.netlist_join.specs.declared.join.Why.TheVariants.{Absent, Deep, NoSection, BadForm, EarlyMore}
+use Rattle.netlist_join.specs.declared.join.Why.TheVariants.{OpenQuotes, SplitText}
 use Rattle.netlist_join.specs.declared.join.JoinFault.{JoinFault}
 use Rattle.netlist_join.specs.declared.join.JoinFault.TheVariants.{At}
 
@@ -46,9 +50,14 @@ has_card (b ∷ bytes) = if b == 0x2A then false else true
 abbrev pub is_fresh_behind : Bool → List ℕ → Bool
 is_fresh_behind fresh line = if has_card (without_blanks line) then false else fresh
 
-abbrev pub onto : Made → Origin → Option (List ℕ) → Outcome
-onto m at None = Err (At OpenQuotes at)
-onto m at (Some text) = Ok (ended (record m { text = text }) at)
+-- why a line that is refused so can't be joined
+abbrev pub why_of : LineFault → Why
+why_of Open = OpenQuotes
+why_of Split = SplitText
+
+abbrev pub onto : Made → Origin → Result (List ℕ) LineFault → Outcome
+onto m at (Err fault) = Err (At (why_of fault) at)
+onto m at (Ok text) = Ok (ended (record m { text = text }) at)
 
 -- behind a line
 abbrev pub behind_line : Made → List ℕ → Made

@@ -5,6 +5,7 @@ ghost use Rattle.std.specs.Prelude.{[], length, if◌then◌else◌};
 ghost use Rattle.std.specs.Option.{option_copied};
 ghost use Rattle.netlist_join.specs.Joining.{call_in, call_of, ended, file_joined, has_card};
 ghost use Rattle.netlist_join.specs.Joining.{ends_file, joined, pushed, said, shown};
+ghost use Rattle.netlist_join.specs.Joining.{why_of};
 ghost use Rattle.netlist_join.specs.Directives.{without_blanks};
 ghost use Rattle.netlist_join.specs.JoinLaw.{AllThereLaw};
 ghost use Rattle.netlist_join.specs.Paths.{beside, find, text_of};
@@ -15,7 +16,7 @@ ghost use Rattle.netlist_join.specs.declared.join.JoinFault.TheVariants.{NoMemor
 use crate::directive::{Directive, directive_of, skip_blanks};
 use crate::files::{File, find, path_beside};
 use crate::part::Part;
-use netlist_lines::{Cleaned, clean_line};
+use netlist_lines::{Cleaned, LineFault, clean_line};
 use rule_lines::next_line;
 use std::alloc::{AllocError, Global};
 
@@ -27,8 +28,8 @@ pub struct Origin {
 }
 
 /// Why a line can't be joined: the file that it names isn't there; files are taken in too deep, or
-/// in a cycle; a file hasn't the section; the line has another form; quotes don't end; or a `+`
-/// begins a file, or stands right behind one that was taken in.
+/// in a cycle; a file hasn't the section; the line has another form; quotes or braces don't end, or
+/// two words stand in them; or a `+` begins a file, or stands right behind one that was taken in.
 #[derive(Clone, Copy)]
 pub enum Why {
     Absent,
@@ -36,7 +37,17 @@ pub enum Why {
     NoSection,
     BadForm,
     OpenQuotes,
+    SplitText,
     EarlyMore,
+}
+
+fn why_of(fault: LineFault) -> Why
+    ensures { result ≡ why_of fault }
+{
+    match fault {
+        LineFault::Open => Why::OpenQuotes,
+        LineFault::Split => Why::SplitText,
+    }
 }
 
 /// The first line that can't be joined.
@@ -162,7 +173,7 @@ impl Joined {
             self.is_fresh = false;
         }
         match clean_line(&mut self.text, line)? {
-            Cleaned::Open => return Err(JoinFault::At(Why::OpenQuotes, at)),
+            Cleaned::Refused(fault) => return Err(JoinFault::At(why_of(fault), at)),
             Cleaned::Cut => self.comments = self.comments.saturating_add(1),
             Cleaned::Whole => {}
         }

@@ -1,23 +1,24 @@
 -- An escaped name is read as it stood.
-use Rattle.std.proofs.Common.{◌≡◌, inl, inr, ℕ, Bool, true, false, List, [], ◌∷◌, ◌++◌, Option, Some, refl, sym, ap, subst, ◌∙◌, append_assoc, arith}
-use Rattle.std.specs.Prelude.{◌==◌, ◌||◌, if◌then◌else◌}
+use Rattle.std.proofs.Common.{◌≡◌, inl, inr, ℕ, Bool, true, false, List, [], ◌∷◌, ◌++◌, refl, sym, ap, subst, ◌∙◌, append_assoc, arith}
+use Rattle.std.specs.Prelude.{◌==◌, ◌||◌, Result, Ok, if◌then◌else◌}
 use Rattle.std.proofs.lemmas.List.{append-nil}
 use Rattle.std.proofs.lemmas.Bool.{eqb-true, cases_Bool, or_parts}
 use Rattle.net_names.specs.Spells.{Spells, End, Itself, Behind, IsHexLetter, ReadAsSpelledLaw}
 use Rattle.spice_cards.specs.Tokens.{is_blank}
 use Rattle.netlist_lines.specs.Cleaning.{cleaned, spelled, Step}
 use Rattle.netlist_lines.specs.declared.cleaning.At.TheVariants.{Before, Escaped}
+use Rattle.netlist_lines.specs.declared.cleaning.LineFault.{LineFault}
 use Rattle.netlist_lines.specs.Names.{spelled_all, has_blank, EscapedNameLaw}
 
-pub some_to : (a b : List ℕ) → a ≡ b → (let o : Option (List ℕ) = Some a in o) ≡ Some b
-some_to a b e = ap (λ (x : List ℕ). let o : Option (List ℕ) = Some x in o) e
+pub made_to : (a b : List ℕ) → a ≡ b → (let o : Result (List ℕ) LineFault = Ok a in o) ≡ Ok b
+made_to a b e = ap (λ (x : List ℕ). let o : Result (List ℕ) LineFault = Ok x in o) e
 
-kept : (made : List ℕ) (word : List ℕ) → has_blank word ≡ false → cleaned made Escaped word ≡ Some (made ++ spelled_all word)
-kept made [] h = some_to made (made ++ []) (sym (append-nil made))
+kept : (made : List ℕ) (word : List ℕ) → has_blank word ≡ false → cleaned made Escaped word ≡ Ok (made ++ spelled_all word)
+kept made [] h = made_to made (made ++ []) (sym (append-nil made))
 kept made (b ∷ bytes) h =
     ap (λ (t : Bool). let s : Step = (if t then record { text = b ∷ []; at = Before } else record { text = spelled b; at = Escaped }) in cleaned (made ++ s.text) s.at bytes) ((or_parts (is_blank b) (has_blank bytes) h).0)
     ∙ kept (made ++ spelled b) bytes ((or_parts (is_blank b) (has_blank bytes) h).1)
-    ∙ some_to ((made ++ spelled b) ++ spelled_all bytes) (made ++ (spelled b ++ spelled_all bytes)) (append_assoc made (spelled b) (spelled_all bytes))
+    ∙ made_to ((made ++ spelled b) ++ spelled_all bytes) (made ++ (spelled b ++ spelled_all bytes)) (append_assoc made (spelled b) (spelled_all bytes))
 
 backslash : IsHexLetter 0x5C → ⊥
 backslash (inl p) = omega arith
@@ -48,6 +49,6 @@ spells (b ∷ bytes) = one b (spelled_all bytes) bytes (spells bytes)
 
 pub escaped_name : ReadAsSpelledLaw → EscapedNameLaw
 escaped_name law made word h = record {
-  text = kept (made ++ 0x5C ∷ 0x5C ∷ []) word h ∙ some_to ((made ++ 0x5C ∷ 0x5C ∷ []) ++ spelled_all word) (made ++ spelled_all (0x5C ∷ word)) (append_assoc made (0x5C ∷ 0x5C ∷ []) (spelled_all word));
+  text = kept (made ++ 0x5C ∷ 0x5C ∷ []) word h ∙ made_to ((made ++ 0x5C ∷ 0x5C ∷ []) ++ spelled_all word) (made ++ spelled_all (0x5C ∷ word)) (append_assoc made (0x5C ∷ 0x5C ∷ []) (spelled_all word));
   read = (law (spelled_all (0x5C ∷ word)) (0x5C ∷ word)).1 (spells (0x5C ∷ word));
 }

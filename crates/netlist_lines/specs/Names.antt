@@ -1,5 +1,5 @@
 -- What the profile reads of a cleaned line.
-use Rattle.std.specs.Prelude.{◌≡◌, ℕ, Bool, false, ◌==◌, ◌||◌, List, [], ◌∷◌, ◌++◌, Some}
+use Rattle.std.specs.Prelude.{◌≡◌, ℕ, Bool, false, ◌==◌, ◌||◌, List, [], ◌∷◌, ◌++◌, Some, Ok}
 use Rattle.net_names.specs.Escapes.{unescaped}
 use Rattle.spice_cards.specs.Tokens.{is_blank}
 use Rattle.netlist_lines.specs.Cleaning.{cleaned, spelled, is_quote}
@@ -17,15 +17,15 @@ has_blank (b ∷ bytes) = is_blank b || has_blank bytes
 -- what stands behind a backslash, up to a blank, is one word, and the name that it spells is the
 -- backslash and what stood behind it
 pub record IsKeptName (made word : List ℕ) : Type 0 where
-  pub text : cleaned made Before (0x5C ∷ word) ≡ Some (made ++ spelled_all (0x5C ∷ word))
+  pub text : cleaned made Before (0x5C ∷ word) ≡ Ok (made ++ spelled_all (0x5C ∷ word))
   pub read : unescaped (spelled_all (0x5C ∷ word)) ≡ Some (0x5C ∷ word)
 
 abbrev pub EscapedNameLaw : Type 0
 EscapedNameLaw = (made word : List ℕ) → has_blank word ≡ false → IsKeptName made word
 
--- a backslash, `;`, `$` and quotes
+-- a backslash, `;`, `$`, quotes and a brace
 abbrev pub is_special : ℕ → Bool
-is_special b = b == 0x5C || (b == 0x3B || (b == 0x24 || is_quote b))
+is_special b = b == 0x5C || (b == 0x3B || (b == 0x24 || (b == 0x7B || is_quote b)))
 
 abbrev pub has_special : List ℕ → Bool
 has_special [] = false
@@ -34,4 +34,4 @@ has_special (b ∷ bytes) = is_special b || has_special bytes
 -- a line without them stays as it is
 abbrev pub PlainLineLaw : Type 0
 PlainLineLaw = (made line : List ℕ) → has_special line ≡ false
-    → cleaned made Before line ≡ Some (made ++ line)
+    → cleaned made Before line ≡ Ok (made ++ line)

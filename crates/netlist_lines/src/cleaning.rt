@@ -4,12 +4,13 @@ ghost use Rattle.std.specs.Prelude.{◌≡◌, ◌++◌, false, IfOk, OnOk};
 ghost use Rattle.spice_cards.specs.Tokens.{is_blank};
 ghost use Rattle.netlist_lines.specs.Cleaning.{Comes, begins_blank, begins_comment, cleaned};
 ghost use Rattle.netlist_lines.specs.Cleaning.{has_comment, is_cut, with_line};
-ghost use Rattle.netlist_lines.specs.Cleaning.{ends_word, in_word, is_quote, spelled, step};
+ghost use Rattle.netlist_lines.specs.Cleaning.{ends_split, ends_word, in_word, is_quote};
+ghost use Rattle.netlist_lines.specs.Cleaning.{is_word_byte, spelled, step, word_next};
 
 use std::alloc::AllocError;
 
 /// Where the reading of a line stands: before a word, before a value, in a word, in an escaped
-/// name, or in a text that this quote ends.
+/// name, or in a text that this quote or brace ends.
 #[derive(Clone, Copy, Debug)]
 pub enum At {
     Before,
@@ -19,12 +20,19 @@ pub enum At {
     Quoted(u8),
 }
 
-/// What came of a line: it is whole, a comment at its end was left out, or quotes in it don't end.
+/// Why a line is refused: quotes or braces in it don't end, or two words stand in them.
+#[derive(Clone, Copy, Debug)]
+pub enum LineFault {
+    Open,
+    Split,
+}
+
+/// What came of a line: it is whole, a comment at its end was left out, or it is refused.
 #[derive(Clone, Copy, Debug)]
 pub enum Cleaned {
     Whole,
     Cut,
-    Open,
+    Refused(LineFault),
 }
 
 fn is_blank(b: u8) -> bool
@@ -71,6 +79,17 @@ fn take_in_word(out: &mut Vec<u8>, b: u8) -> Result<At, AllocError>
     Ok(At::Within)
 }
 
+fn take_before(out: &mut Vec<u8>, b: u8) -> Result<At, AllocError>
+    ensures text { OnOk result (out.new.items ≡ out.old.items ++ (step At.Before b).text) }
+    ensures at { IfOk result (λ next. next ≡ (step At.Before b).at) }
+{
+    if b == b'{' {
+        out.push(b)?;
+        return Ok(At::Quoted(b'}'));
+    }
+    take_in_word(out, b)
+}
+
 fn take_value(out: &mut Vec<u8>, b: u8) -> Result<At, AllocError>
     ensures text { OnOk result (out.new.items ≡ out.old.items ++ (step At.Value b).text) }
     ensures at { IfOk result (λ next. next ≡ (step At.Value b).at) }
@@ -83,7 +102,7 @@ fn take_value(out: &mut Vec<u8>, b: u8) -> Result<At, AllocError>
         out.push(b)?;
         return Ok(At::Quoted(b));
     }
-    take_in_word(out, b)
+    take_before(out, b)
 }
 
 fn take_escaped(out: &mut Vec<u8>, b: u8) -> Result<At, AllocError>
@@ -119,7 +138,7 @@ fn take(out: &mut Vec<u8>, at: At, b: u8) -> Result<At, AllocError>
     ensures at { IfOk result (λ next. next ≡ (step at b).at) }
 {
     match at {
-        At::Before => take_in_word(out, b),
+        At::Before => take_before(out, b),
         At::Within => take_in_word(out, b),
         At::Value => take_value(out, b),
         At::Escaped => take_escaped(out, b),
@@ -148,6 +167,49 @@ fn begins_comment(at: At, b: u8, behind: &[u8]) -> bool
     }
 }
 
+// A byte of names and numbers.
+fn is_word_byte(b: u8) -> bool
+    ensures { result ≡ is_word_byte b }
+{
+    b.is_ascii_alphanumeric() || b == b'_' || b == b'.'
+}
+
+// Whether a word stands next, behind blanks.
+fn word_next(bytes: &[u8]) -> bool
+    ensures { result ≡ word_next bytes.now }
+{
+    let mut rest = bytes;
+    'blanks: while let [b, more @ ..] = rest {
+        if !is_blank(*b) {
+            return is_word_byte(*b);
+        }
+        rest = more;
+    }
+    false
+}
+
+fn begins_blank(bytes: &[u8]) -> bool
+    ensures { result ≡ begins_blank bytes.now }
+{
+    match bytes {
+        [] => false,
+        [b, ..] => is_blank(*b),
+    }
+}
+
+// Whether, in quotes or braces, a blank stands between a byte and the next word.
+fn ends_split(at: At, b: u8, behind: &[u8]) -> bool
+    ensures { result ≡ ends_split at b behind.now }
+{
+    match at {
+        At::Quoted(_) => is_word_byte(b) && begins_blank(behind) && word_next(behind),
+        At::Before => false,
+        At::Value => false,
+        At::Within => false,
+        At::Escaped => false,
+    }
+}
+
 // Adds what the rest of a line becomes.
 fn clean(out: &mut Vec<u8>, bytes: &[u8]) -> Result<Cleaned, AllocError>
     ensures { IfOk result (Comes (cleaned out.old.items At.Before bytes.now)
@@ -159,11 +221,14 @@ fn clean(out: &mut Vec<u8>, bytes: &[u8]) -> Result<Cleaned, AllocError>
         if begins_comment(at, *b, more) {
             return Ok(Cleaned::Cut);
         }
+        if ends_split(at, *b, more) {
+            return Ok(Cleaned::Refused(LineFault::Split));
+        }
         at = take(out, at, *b)?;
         rest = more;
     }
     match at {
-        At::Quoted(_) => Ok(Cleaned::Open),
+        At::Quoted(_) => Ok(Cleaned::Refused(LineFault::Open)),
         At::Before => Ok(Cleaned::Whole),
         At::Value => Ok(Cleaned::Whole),
         At::Within => Ok(Cleaned::Whole),
@@ -172,7 +237,7 @@ fn clean(out: &mut Vec<u8>, bytes: &[u8]) -> Result<Cleaned, AllocError>
 }
 
 /// Adds what a line becomes: its comment is left out, a backslash stands for itself up to the end
-/// of its word, and what stands in quotes behind `=` is one word. Linear in the line.
+/// of its word, and what stands in quotes behind `=`, or in braces, is one word. Linear in the line.
 pub fn clean_line(out: &mut Vec<u8>, line: &[u8]) -> Result<Cleaned, AllocError>
     ensures { IfOk result (Comes (with_line out.old.items line.now) (has_comment line.now)
         out.new.items) }

@@ -4,5 +4,5 @@
 mod cleaning;
 mod laws;
 
-pub use cleaning::{Cleaned, clean_line};
+pub use cleaning::{Cleaned, LineFault, clean_line};
 pub use laws::line_laws;

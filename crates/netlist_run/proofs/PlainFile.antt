@@ -13,6 +13,7 @@ use Rattle.spice_rows.specs.Sizes.{read_limit}
 use Rattle.spice_text.specs.Gather.{early_or, no_cards, reading}
 use Rattle.spice_text.specs.Means.{Means}
 use Rattle.netlist_lines.specs.Cleaning.{cleaned, with_line}
+use Rattle.netlist_lines.specs.declared.cleaning.LineFault.{LineFault}
 use Rattle.netlist_lines.specs.Names.{has_special, is_special, PlainLineLaw}
 use Rattle.netlist_lines.specs.declared.cleaning.At.TheVariants.{Before}
 use Rattle.netlist_join.specs.Directives.{Directive, directive, EndsFile, Nothing, without_blanks}
@@ -38,35 +39,35 @@ abbrev body : List (List ℕ) → List ℕ
 body [] = []
 body (line ∷ lines) = kept line ++ 0x0A ∷ body lines
 
-some_same : (a b : List ℕ) → a ≡ b → (let x : Option (List ℕ) = Some a in x) ≡ Some b
-some_same a b e = ap (λ (t : List ℕ). let x : Option (List ℕ) = Some t in x) e
+some_same : (a b : List ℕ) → a ≡ b → (let x : Result (List ℕ) LineFault = Ok a in x) ≡ Ok b
+some_same a b e = ap (λ (t : List ℕ). let x : Result (List ℕ) LineFault = Ok t in x) e
 
 -- a comment line, behind which nothing is left
-comment : (text bytes : List ℕ) (b : ℕ) → b ≡ 0x2A → with_line text (b ∷ bytes) ≡ Some text
-comment text bytes b e = subst (λ (c : ℕ). with_line text (c ∷ bytes) ≡ Some text) (sym e) refl
+comment : (text bytes : List ℕ) (b : ℕ) → b ≡ 0x2A → with_line text (b ∷ bytes) ≡ Ok text
+comment text bytes b e = subst (λ (c : ℕ). with_line text (c ∷ bytes) ≡ Ok text) (sym e) refl
 
 more_or_not : (q : Bool) (law : PlainLineLaw) (text bytes : List ℕ) (b : ℕ) → has_special (b ∷ bytes) ≡ false
-    → (if q then cleaned (text ++ b ∷ []) Before bytes else cleaned text Before (b ∷ bytes)) ≡ Some (text ++ b ∷ bytes)
+    → (if q then cleaned (text ++ b ∷ []) Before bytes else cleaned text Before (b ∷ bytes)) ≡ Ok (text ++ b ∷ bytes)
 more_or_not true law text bytes b h =
     law (text ++ b ∷ []) bytes (or_parts (is_special b) (has_special bytes) h).1 ∙ some_same ((text ++ b ∷ []) ++ bytes) (text ++ b ∷ bytes) (append_assoc text (b ∷ []) bytes)
 more_or_not false law text bytes b h = law text (b ∷ bytes) h
 
-words_by : (p q r : Bool) (law : PlainLineLaw) (text bytes : List ℕ) (o : Option (List ℕ)) (b : ℕ) → p ≡ false → q ≡ false → has_special (b ∷ bytes) ≡ false
-    → (if p then o else if q then (let x : Option (List ℕ) = Some text in x) else if r then cleaned (text ++ b ∷ []) Before bytes else cleaned text Before (b ∷ bytes))
-    ≡ Some (text ++ (if q then [] else b ∷ bytes))
+words_by : (p q r : Bool) (law : PlainLineLaw) (text bytes : List ℕ) (o : Result (List ℕ) LineFault) (b : ℕ) → p ≡ false → q ≡ false → has_special (b ∷ bytes) ≡ false
+    → (if p then o else if q then (let x : Result (List ℕ) LineFault = Ok text in x) else if r then cleaned (text ++ b ∷ []) Before bytes else cleaned text Before (b ∷ bytes))
+    ≡ Ok (text ++ (if q then [] else b ∷ bytes))
 words_by true q r law text bytes o b e f h = absurd (let z : ⊥ = cc in z)
 words_by false true r law text bytes o b e f h = absurd (let z : ⊥ = cc in z)
 words_by false false r law text bytes o b e f h = more_or_not r law text bytes b h
 
 line_by : (q : Bool) (law : PlainLineLaw) (text bytes : List ℕ) (b : ℕ) → (b == 0x2A) ≡ q → (q || (not (is_blank b) && not (has_special (b ∷ bytes)))) ≡ true
-    → with_line text (b ∷ bytes) ≡ Some (text ++ (if q then [] else b ∷ bytes))
+    → with_line text (b ∷ bytes) ≡ Ok (text ++ (if q then [] else b ∷ bytes))
 line_by true law text bytes b e h = comment text bytes b (eqb-true b 0x2A e) ∙ some_same text (text ++ []) (sym (append-nil text))
 line_by false law text bytes b e h =
     let parts = and_parts (not (is_blank b)) (not (has_special (b ∷ bytes))) h in
     let by = words_by (is_blank b) (b == 0x2A) (b == 0x2B) law text bytes (with_line text bytes) b (not-true (is_blank b) parts.0) e (not-true (has_special (b ∷ bytes)) parts.1) in
-    by ∙ ap (λ (t : Bool). let x : Option (List ℕ) = Some (text ++ (if t then [] else b ∷ bytes)) in x) e
+    by ∙ ap (λ (t : Bool). let x : Result (List ℕ) LineFault = Ok (text ++ (if t then [] else b ∷ bytes)) in x) e
 
-plain_with : (law : PlainLineLaw) (text line : List ℕ) → stays line ≡ true → with_line text line ≡ Some (text ++ kept line)
+plain_with : (law : PlainLineLaw) (text line : List ℕ) → stays line ≡ true → with_line text line ≡ Ok (text ++ kept line)
 plain_with law text [] h = some_same text (text ++ []) (sym (append-nil text))
 plain_with law text (b ∷ bytes) h = line_by (b == 0x2A) law text bytes b refl h
 
@@ -104,7 +105,7 @@ line_on : (law : PlainLineLaw) (m r : Made) (line : List ℕ) (at : Origin) → 
 line_on law m r line at untitled plain h =
     let shows = not_taken m.has_title (Ok (ended (record m { has_title = false }) at)) (shown m line at) r untitled h in
     let puts = not_early (m.is_fresh && begins 0x2B (without_blanks line)) (At EarlyMore at) (onto (behind_line m line) at (with_line m.text line)) r shows in
-    let whole = subst (λ (o : Option (List ℕ)). onto (behind_line m line) at o ≡ Ok r) (plain_with law m.text line plain) puts in
+    let whole = subst (λ (o : Result (List ℕ) LineFault). onto (behind_line m line) at o ≡ Ok r) (plain_with law m.text line plain) puts in
     let same = ok_is (ended (record (behind_line m line) { text = m.text ++ kept line }) at) r whole in
     record { is = sym (ap (λ (x : Made). x.text) same); untitled = sym (ap (λ (x : Made). x.has_title) same) ∙ untitled }
 
@@ -228,7 +229,7 @@ plain_bytes : (bytes : List ℕ) → has_special bytes ≡ false → has_escape 
 plain_bytes [] h = refl
 plain_bytes (b ∷ bytes) h =
     let parts = or_parts (is_special b) (has_special bytes) h in
-    ap (λ (t : Bool). t || has_escape bytes) (or_parts (b == 0x5C) (b == 0x3B || (b == 0x24 || (b == 0x27 || b == 0x22))) parts.0).0 ∙ plain_bytes bytes parts.1
+    ap (λ (t : Bool). t || has_escape bytes) (or_parts (b == 0x5C) (b == 0x3B || (b == 0x24 || (b == 0x7B || (b == 0x27 || b == 0x22)))) parts.0).0 ∙ plain_bytes bytes parts.1
 
 kept_plain_by : (q : Bool) (b : ℕ) (bytes : List ℕ) → (q || (not (is_blank b) && not (has_special (b ∷ bytes)))) ≡ true → has_escape (if q then [] else b ∷ bytes) ≡ false
 kept_plain_by true b bytes h = refl

@@ -62,6 +62,7 @@ not_defined files j a (turn.Unscaled line) s h says = Defines (turn.Unscaled lin
 not_defined files j a (turn.DeviceNets line) s h says = Defines (turn.DeviceNets line) h says
 not_defined files j a (turn.OddCount line) s h says = Defines (turn.OddCount line) h says
 not_defined files j a (turn.ListedTwice line) s h says = Defines (turn.ListedTwice line) h says
+not_defined files j a (turn.OtherPins line) s h says = Defines (turn.OtherPins line) h says
 
 pub not_turned : (files : List File) (j : Joined) (a : Asked) (settings : Settings) (e : TurnFault) (s : Stop) → IsPlan j.text.items a.top a.choices settings true
     → SaysTurnFault e (turned settings j.text.items) → SaysTurn files j.origins.items e s → NotMade files j a s
@@ -78,6 +79,7 @@ not_turned files j a settings (turn.Unscaled line) s plan h says = Turns setting
 not_turned files j a settings (turn.DeviceNets line) s plan h says = Turns settings (turn.DeviceNets line) plan h says
 not_turned files j a settings (turn.OddCount line) s plan h says = Turns settings (turn.OddCount line) plan h says
 not_turned files j a settings (turn.ListedTwice line) s plan h says = Turns settings (turn.ListedTwice line) plan h says
+not_turned files j a settings (turn.OtherPins line) s plan h says = Turns settings (turn.OtherPins line) plan h says
 
 pub not_joined : (files : List File) (a : Asked) (e : JoinFault) (s : Stop) → AllThereLaw → AreAsked a.inputs files → StartsWith (paths_of files) a.inputs
     → SaysJoinFault e (joined_files files (length a.inputs) a.has_title) → SaysJoin files e s → NotJoined files a s
@@ -100,6 +102,7 @@ turn_inside files origins (turn.Unscaled line) h = h
 turn_inside files origins (turn.DeviceNets line) h = h
 turn_inside files origins (turn.OddCount line) h = h
 turn_inside files origins (turn.ListedTwice line) h = h
+turn_inside files origins (turn.OtherPins line) h = h
 
 spice_inside : (files : List File) (origins : List Origin) (lines : List ℕ) (f : SpiceFault) → SaysSpice files origins lines f stop.Outside → ⊥
 spice_inside files origins lines spice.NoMemory h = absurd cc

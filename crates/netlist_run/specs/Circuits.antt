@@ -1,12 +1,12 @@
 -- The circuits that cards name, by number in the order of their first sight, and their calls.
-use Rattle.std.specs.Prelude.{ℕ, Bool, true, false, ◌&&◌, nat_lt, List, [], ◌∷◌, ◌++◌, length}
+use Rattle.std.specs.Prelude.{ℕ, Bool, true, false, ◌&&◌, ◌||◌, nat_lt, List, [], ◌∷◌, ◌++◌, length}
 use Rattle.std.specs.Prelude.{slice_index_or, slice_set, Option, Some, None, if◌then◌else◌}
 use Rattle.net_names.specs.Folding.{folded_bytes}
 use Rattle.text_table.specs.Texts.{place_of, with_text}
 use Rattle.spice_cards.specs.Tokens.{Token, Word, Equals}
 use Rattle.spice_cards.specs.Parts.{words_of}
 use Rattle.spice_cards.specs.Cards.{Card, cards_of}
-use Rattle.netlist_turn.specs.Words.{is_params, row_of}
+use Rattle.netlist_turn.specs.Words.{is_params, is_pins_word, row_of}
 use Rattle.netlist_turn.specs.declared.rows.Row.{Row}
 use Rattle.netlist_turn.specs.declared.rows.Row.TheVariants.{Call, Opening, Ending}
 
@@ -42,11 +42,15 @@ abbrev pub opened : Circuits → List (List ℕ) → Circuits
 opened c [] = c
 opened c (name ∷ words) = begun_at (named c name) (number_of c name)
 
--- the called circuit's name: the last word but `PARAMS:`
+-- a word that stands behind the name
+abbrev pub is_behind_name : List ℕ → Bool
+is_behind_name w = is_params w || is_pins_word w
+
+-- the called circuit's name: the last word but `PARAMS:` and `$PINS`
 abbrev pub called : List (List ℕ) → Option (List ℕ)
 called [] = None
 called (w ∷ []) = Some w
-called (w ∷ p ∷ []) = if is_params p then Some w else Some p
+called (w ∷ p ∷ []) = if is_behind_name p then Some w else Some p
 called (w ∷ p ∷ q ∷ words) = called (p ∷ q ∷ words)
 
 -- one call more of a circuit

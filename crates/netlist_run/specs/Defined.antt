@@ -1,13 +1,15 @@
--- The names that `.PARAM` cards define, and their values, the scale that an option card sets, and the
--- devices that `.DEVICE` cards list.
+-- The names that `.PARAM` cards define, and their values, the scale that an option card sets, the
+-- devices that `.DEVICE` cards list, and the pins of circuits.
 use Rattle.std.specs.Prelude.{◌≡◌, ℕ, List, [], ◌∷◌, ◌++◌, map, Option, Some, None, Result, Ok, Err}
 use Rattle.std.specs.Prelude.{codes, is_some, Bool, false, if◌then◌else◌}
+use Rattle.std.specs.Global.{Vec}
 use Rattle.net_names.specs.Folding.{folded_bytes}
 use Rattle.text_table.specs.Texts.{has_text}
 use Rattle.spice_cards.specs.Cards.{Card, cards_of, early_more}
 use Rattle.spice_cards.specs.Parts.{Param, behind_words, params_of, words_of}
 use Rattle.spice_cards.specs.Tokens.{Token, Word, Equals}
 use Rattle.spice_rows.specs.Names.{is_text}
+use Rattle.netlist_turn.specs.CardLaw.{kept_words}
 use Rattle.netlist_turn.specs.Devices.{Device, device_of}
 use Rattle.netlist_turn.specs.DevicesSeen.{device_seen}
 use Rattle.netlist_turn.specs.Scale.{scale_of}
@@ -15,17 +17,20 @@ use Rattle.netlist_turn.specs.Words.{is_option, unquoted}
 use Rattle.netlist_turn.specs.declared.fault.TurnFault.{TurnFault}
 use Rattle.netlist_turn.specs.declared.fault.TurnFault.TheVariants.{BadForm, EarlyMore, Twice, NoMemory}
 use Rattle.netlist_turn.specs.declared.fault.TurnFault.TheVariants.{BadScale, ListedTwice, SecondScale}
+use Rattle.netlist_turn.specs.declared.rows.Row.TheVariants.{Opening}
 use Rattle.netlist_turn.specs.declared.settings.Settings.{Settings}
 use Rattle.netlist_run.specs.declared.params.Params.{Params}
 
--- names, folded, and the value of each; the scale in 10^-15; and the names of devices, folded, and
--- what each is
+-- names, folded, and the value of each; the scale in 10^-15; the names of devices, folded, and
+-- what each is; and the names of circuits, folded, and the pins of each
 pub record Defined : Type 0 where
   pub names : List (List ℕ)
   pub values : List (List ℕ)
   pub scale : Option ℕ
   pub listed : List (List ℕ)
   pub devices : List Device
+  pub pinned : List (List ℕ)
+  pub pins : List (List (List ℕ))
 
 -- a name is defined once
 abbrev pub with_param : Defined → ℕ → Param → Result Defined TurnFault
@@ -94,6 +99,16 @@ abbrev pub listed_or : Defined → ℕ → List (List ℕ) → Option (List Para
 listed_or d line words None = Err (BadForm line)
 listed_or d line words (Some ps) = with_listed d line words ps
 
+-- the first circuit of a name; its pins are folded
+abbrev pub with_circuit : Defined → List (List ℕ) → Defined
+with_circuit d [] = d
+with_circuit d (name ∷ pins) =
+    if has_text d.pinned (folded_bytes name) then d
+    else record d {
+      pinned = d.pinned ++ folded_bytes name ∷ [];
+      pins = d.pins ++ map folded_bytes pins ∷ [];
+    }
+
 abbrev pub with_card : Defined → ℕ → List Token → Result Defined TurnFault
 with_card d line [] = Ok d
 with_card d line (Equals ∷ ts) = Ok d
@@ -102,6 +117,8 @@ with_card d line (Word first ∷ ts) =
     else if is_text (codes ".DEVICE") first
     then listed_or d line (words_of ts) (params_of (behind_words ts))
     else if is_option first then with_scales d line ts
+    else if is_text (codes ".SUBCKT") first
+    then Ok (with_circuit d (kept_words Opening (words_of ts)))
     else Ok d
 
 abbrev pub defining : Defined → List Card → Result Defined TurnFault
@@ -110,7 +127,15 @@ defining d (c ∷ cs) = and_then (with_card d c.line c.tokens) (λ next. definin
 
 -- nothing but a scale, where one is asked for
 abbrev pub start : Option ℕ → Defined
-start scale = record { names = []; values = []; scale = scale; listed = []; devices = [] }
+start scale = record {
+  names = [];
+  values = [];
+  scale = scale;
+  listed = [];
+  devices = [];
+  pinned = [];
+  pins = [];
+}
 
 abbrev pub early_or : Option ℕ → Result Defined TurnFault → Result Defined TurnFault
 early_or None rest = rest
@@ -120,7 +145,10 @@ early_or (Some line) rest = Err (EarlyMore line)
 abbrev pub defined : Option ℕ → List ℕ → Result Defined TurnFault
 defined scale bytes = early_or (early_more bytes) (defining (start scale) (cards_of bytes))
 
--- what the code's records are
+-- what the code's lists and records are
+abbrev pub pins_seen : List (Vec (Vec ℕ)) → List (List (List ℕ))
+pins_seen all = map (λ ps. map (λ p. p.items) ps.items) all
+
 abbrev pub params_seen : Params → Defined
 params_seen p = record {
   names = p.names;
@@ -128,6 +156,8 @@ params_seen p = record {
   scale = p.scale;
   listed = p.listed;
   devices = map device_seen p.devices.items;
+  pinned = p.pinned;
+  pins = pins_seen p.pins.items;
 }
 
 abbrev pub settings_seen : Settings → Defined
@@ -137,6 +167,8 @@ settings_seen s = record {
   scale = s.scale;
   listed = s.listed;
   devices = map device_seen s.devices.items;
+  pinned = s.pinned;
+  pins = pins_seen s.pins.items;
 }
 
 -- the answer is this fault, or that there is no memory

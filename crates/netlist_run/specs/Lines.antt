@@ -29,6 +29,7 @@ why_text why.Deep = codes "files take in each other in a cycle, or too deep"
 why_text why.NoSection = codes "the file hasn't the section"
 why_text why.BadForm = codes "names no file"
 why_text why.OpenQuotes = codes "quotes that don't end"
+why_text why.SplitText = codes "a blank inside a value"
 why_text why.EarlyMore = codes "a + with no card before it in its file"
 
 abbrev pub turn_line : TurnFault → ℕ
@@ -44,6 +45,7 @@ turn_line (turn.Unscaled line) = line
 turn_line (turn.DeviceNets line) = line
 turn_line (turn.OddCount line) = line
 turn_line (turn.ListedTwice line) = line
+turn_line (turn.OtherPins line) = line
 turn_line turn.NoMemory = 0
 
 abbrev pub turn_text : TurnFault → List ℕ
@@ -60,6 +62,7 @@ turn_text (turn.DeviceNets line) = codes "a call of a device with another number
 turn_text (turn.OddCount line) =
     codes "a number of devices that is said twice, or not twice the same"
 turn_text (turn.ListedTwice line) = codes "a second .DEVICE of one name"
+turn_text (turn.OtherPins line) = codes "$PINS that aren't the circuit's pins"
 turn_text turn.NoMemory = []
 
 -- the refusal of a card that can't be turned

@@ -12,7 +12,7 @@ use Rattle.netlist_turn.specs.Made.{Told}
 use Rattle.netlist_turn.specs.declared.made.Kind.{Kind}
 use Rattle.netlist_turn.specs.declared.made.Kind.TheVariants.{Card, Parameter, Slash, Params}
 use Rattle.netlist_turn.specs.declared.made.Kind.TheVariants.{Value, Quotes, Name, Number}
-use Rattle.netlist_turn.specs.declared.made.Kind.TheVariants.{Marked, Size, Device}
+use Rattle.netlist_turn.specs.declared.made.Kind.TheVariants.{Marked, Pins, Size, Device}
 use Rattle.netlist_turn.specs.Scale.{micro_text}
 use Rattle.netlist_run.specs.Places.{place_text, origin_of}
 
@@ -50,6 +50,7 @@ pub record Sums : Type 0 where
   pub names : ℕ
   pub numbers : ℕ
   pub marked : ℕ
+  pub pins : ℕ
 
 -- `left out PATH line L WORD`
 abbrev pub card_line : List File → List Origin → Told → List ℕ
@@ -68,6 +69,7 @@ with_kind files origins s t Quotes = record s { quotes = raised s.quotes }
 with_kind files origins s t Name = record s { names = raised s.names }
 with_kind files origins s t Number = record s { numbers = raised s.numbers }
 with_kind files origins s t Marked = record s { marked = raised s.marked }
+with_kind files origins s t Pins = record s { pins = raised s.pins }
 
 abbrev pub sums_from : List File → List Origin → Sums → List Told → Sums
 sums_from files origins s [] = s
@@ -90,6 +92,7 @@ no_sums = record {
   names = 0;
   numbers = 0;
   marked = 0;
+  pins = 0;
 }
 
 -- ` N`, and the line's end
@@ -121,11 +124,12 @@ names_text s =
     ++ (tally_text (codes "scaled") s.sizes.names s.sizes.counts
     ++ tally_text (codes "device") s.devices.names s.devices.counts))
 
--- escaped names, numbers that were left out, and cards on which `$` marks something
+-- escaped names, numbers that were left out, cards on which `$` marks something, and calls that
+-- name pins
 abbrev pub words_text : Sums → List ℕ
 words_text s =
     count_text (codes "backslashes") s.names ++ (count_text (codes "numbers") s.numbers
-    ++ count_text (codes "marked") s.marked)
+    ++ (count_text (codes "marked") s.marked ++ count_text (codes "$PINS") s.pins))
 
 -- so many comments at the ends of lines, and the others
 abbrev pub counts_text : ℕ → Sums → List ℕ

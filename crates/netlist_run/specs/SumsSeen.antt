@@ -19,4 +19,5 @@ seen s = record {
   names = s.names;
   numbers = s.numbers;
   marked = s.marked;
+  pins = s.pins;
 }

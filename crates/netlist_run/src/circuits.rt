@@ -5,10 +5,11 @@ ghost use Rattle.std.specs.Option.{option_copied};
 ghost use Rattle.spice_cards.specs.Parts.{words_of};
 ghost use Rattle.spice_cards.specs.Seen.{tokens_seen, words_seen};
 ghost use Rattle.netlist_run.specs.Circuits.{begun_at, called, calling, is_begun, named};
+ghost use Rattle.netlist_run.specs.Circuits.{is_behind_name};
 ghost use Rattle.netlist_run.specs.Circuits.{none, number_of, opened, with_call, with_card, with_row};
 ghost use Rattle.netlist_run.specs.CircuitsSeen.{circuits_seen};
 
-use netlist_turn::{Row, folded, is_params, row_of};
+use netlist_turn::{Row, folded, is_params, is_pins_word, row_of};
 use spice_cards::{Token, read_words};
 use std::alloc::{AllocError, Global};
 use text_table::TextTable;
@@ -22,7 +23,14 @@ pub struct Circuits {
     pub inside: Option<usize>,
 }
 
-// The name of a called circuit: the last word, but `PARAMS:`.
+// A word that stands behind the name.
+fn is_behind_name(word: &[u8]) -> bool
+    ensures { result ≡ is_behind_name word.now }
+{
+    is_params(word) || is_pins_word(word)
+}
+
+// The name of a called circuit: the last word, but `PARAMS:` and `$PINS`.
 fn called<'a>(words: &[&'a [u8]]) -> Option<&'a [u8]>
     ensures { option_copied result ≡ called (words_seen words.now) }
 {
@@ -30,7 +38,7 @@ fn called<'a>(words: &[&'a [u8]]) -> Option<&'a [u8]>
     'words: while let [word, more @ ..] = rest {
         match more {
             [] => return Some(*word),
-            [last] => return Some(if is_params(last) { *word } else { *last }),
+            [last] => return Some(if is_behind_name(last) { *word } else { *last }),
             _ => rest = more,
         }
     }

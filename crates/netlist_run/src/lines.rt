@@ -64,6 +64,7 @@ fn why_text(why: Why) -> &'static [u8]
         Why::NoSection => b"the file hasn't the section",
         Why::BadForm => b"names no file",
         Why::OpenQuotes => b"quotes that don't end",
+        Why::SplitText => b"a blank inside a value",
         Why::EarlyMore => b"a + with no card before it in its file",
     }
 }
@@ -94,6 +95,7 @@ fn turn_line(fault: &TurnFault) -> u64
         TurnFault::DeviceNets(line) => *line,
         TurnFault::OddCount(line) => *line,
         TurnFault::ListedTwice(line) => *line,
+        TurnFault::OtherPins(line) => *line,
         TurnFault::NoMemory => 0,
     }
 }
@@ -116,6 +118,7 @@ fn turn_text(fault: &TurnFault) -> &'static [u8]
             b"a number of devices that is said twice, or not twice the same"
         }
         TurnFault::ListedTwice(_) => b"a second .DEVICE of one name",
+        TurnFault::OtherPins(_) => b"$PINS that aren't the circuit's pins",
         TurnFault::NoMemory => b"",
     }
 }

@@ -1,7 +1,7 @@
-//! The names that `.PARAM` cards define, and their values, the scale that an option card sets, and
-//! the devices that `.DEVICE` cards list.
+//! The names that `.PARAM` cards define, and their values, the scale that an option card sets, the
+//! devices that `.DEVICE` cards list, and the pins of circuits.
 
-ghost use Rattle.std.specs.Prelude.{◌≡◌, ◌++◌, ◌∷◌, [], false, IfErr, OnOk, Ok};
+ghost use Rattle.std.specs.Prelude.{◌≡◌, ◌++◌, ◌∷◌, [], false, map, IfErr, IfOk, OnOk, Ok};
 ghost use Rattle.text_table.specs.Texts.{has_text};
 ghost use Rattle.spice_cards.specs.Seen.{param_seen, params_seen as list_seen, seen, tokens_seen};
 ghost use Rattle.spice_cards.specs.Seen.{words_seen};
@@ -9,18 +9,22 @@ ghost use Rattle.spice_cards.specs.Parts.{behind_words, params_of, words_of};
 ghost use Rattle.netlist_turn.specs.DevicesSeen.{device_seen};
 ghost use Rattle.netlist_run.specs.Defined.{params_or, params_seen, SaysFault, start};
 ghost use Rattle.netlist_run.specs.Defined.{is_scale, value_in, with_card, with_param, with_params};
-ghost use Rattle.netlist_run.specs.Defined.{listed_or, with_listed, with_scale, with_scales};
+ghost use Rattle.netlist_run.specs.Defined.{listed_or, with_circuit, with_listed, with_scale};
+ghost use Rattle.netlist_run.specs.Defined.{with_scales};
+ghost use Rattle.net_names.specs.Folding.{folded_bytes};
+ghost use Rattle.netlist_turn.specs.CardLaw.{kept_words};
+ghost use Rattle.netlist_turn.specs.declared.rows.Row.TheVariants.{Opening};
 
 use netlist_turn::{
-    Device, TurnFault, device_of, folded, is_list_word, is_option, is_param_word, is_text,
-    scale_of, unquoted,
+    Device, Row, TurnFault, device_of, folded, is_list_word, is_option, is_param_word, is_text,
+    kept_words, scale_of, unquoted,
 };
 use spice_cards::{Param, Token, read_params, read_words};
 use std::alloc::{AllocError, Global};
 use text_table::TextTable;
 
-/// Names, folded, and the value of each; the scale in 10^-15; and the names of devices, folded, and
-/// what each is.
+/// Names, folded, and the value of each; the scale in 10^-15; the names of devices, folded, and
+/// what each is; and the names of circuits, folded, and the pins of each.
 #[derive(Drop)]
 pub struct Params {
     pub names: TextTable,
@@ -28,6 +32,8 @@ pub struct Params {
     pub scale: Option<u128>,
     pub listed: TextTable,
     pub devices: Vec<Device>,
+    pub pinned: TextTable,
+    pub pins: Vec<Vec<Vec<u8>>>,
 }
 
 /// Nothing but a scale, where one is asked for.
@@ -40,6 +46,8 @@ pub fn start(alloc: Global, scale: Option<u128>) -> Params
         scale,
         listed: TextTable::new(alloc),
         devices: Vec::new(alloc),
+        pinned: TextTable::new(alloc),
+        pins: Vec::new(alloc),
     }
 }
 
@@ -169,6 +177,62 @@ fn take_listed(
     list(alloc, params, line, &words, &found)
 }
 
+fn folded_all(alloc: Global, words: &[&[u8]]) -> Result<Vec<Vec<u8>>, AllocError>
+    ensures { IfOk result (λ ws. map (λ w. w.items) ws.items
+        ≡ map folded_bytes (words_seen words.now)) }
+{
+    let mut all = Vec::new(alloc);
+    let mut rest = words;
+    'words: while let [word, more @ ..] = rest {
+        all.push(folded(alloc, word)?)?;
+        rest = more;
+    }
+    Ok(all)
+}
+
+fn push_pins(
+    alloc: Global,
+    params: &mut Params,
+    name: &[u8],
+    pins: Vec<Vec<u8>>,
+) -> Result<(), AllocError>
+    requires { has_text params.old.pinned name.now ≡ false }
+    ensures { OnOk result (params_seen params.new ≡ record (params_seen params.old) {
+      pinned = (params_seen params.old).pinned ++ name.now ∷ [];
+      pins = (params_seen params.old).pins ++ map (λ p. p.items) pins.items ∷ [];
+    }) }
+{
+    params.pinned.add(alloc, name)?;
+    params.pins.push(pins)?;
+    Ok(())
+}
+
+// Keeps the pins of the first circuit of a name.
+fn add_circuit(alloc: Global, params: &mut Params, words: &[&[u8]]) -> Result<(), AllocError>
+    ensures { OnOk result (params_seen params.new
+        ≡ with_circuit (params_seen params.old) (words_seen words.now)) }
+{
+    let [name, pins @ ..] = words else {
+        return Ok(());
+    };
+    let name = folded(alloc, name)?;
+    if params.pinned.contains(&name) {
+        return Ok(());
+    }
+    let pins = folded_all(alloc, pins)?;
+    push_pins(alloc, params, &name, pins)
+}
+
+fn take_circuit(alloc: Global, params: &mut Params, tokens: &[Token]) -> Result<(), AllocError>
+    ensures { OnOk result (params_seen params.new ≡ with_circuit (params_seen params.old)
+        (kept_words Opening (words_of (tokens_seen tokens.now)))) }
+{
+    let mut words = Vec::new(alloc);
+    let _rest = read_words(&mut words, tokens)?;
+    let kept = kept_words(alloc, Row::Opening, &words)?;
+    add_circuit(alloc, params, &kept)
+}
+
 // Sets the scale, which wasn't set before.
 fn set_scale(params: &mut Params, line: u64, text: &[u8]) -> Result<(), TurnFault>
     ensures made { OnOk result (with_scale (params_seen params.old) line text.now
@@ -224,7 +288,7 @@ fn take_scales(params: &mut Params, line: u64, tokens: &[Token]) -> Result<(), T
 
 /// Takes a card: a `.PARAM` defines each of its parameters, which wasn't defined before; a `.DEVICE`
 /// lists a name, which wasn't listed before; an option card may set the scale, which wasn't set
-/// before.
+/// before; and the pins of the first circuit of a name are kept.
 pub fn take(
     alloc: Global,
     params: &mut Params,
@@ -246,6 +310,9 @@ pub fn take(
             }
             if is_option(first) {
                 return take_scales(params, line, behind);
+            }
+            if is_text(first, b".SUBCKT") {
+                take_circuit(alloc, params, behind)?;
             }
             Ok(())
         }

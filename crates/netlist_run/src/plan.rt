@@ -86,6 +86,8 @@ fn settled(
         scale,
         listed,
         devices,
+        pinned,
+        pins,
     } = params;
     let Circuits {
         names: circuits,
@@ -104,6 +106,8 @@ fn settled(
         scale,
         listed,
         devices,
+        pinned,
+        pins,
     };
     Ok(Plan { settings, is_found })
 }

@@ -25,6 +25,7 @@ pub struct Sums {
     pub names: u64,
     pub numbers: u64,
     pub marked: u64,
+    pub pins: u64,
 }
 
 fn no_sums(alloc: Global) -> Sums
@@ -42,6 +43,7 @@ fn no_sums(alloc: Global) -> Sums
         names: 0,
         numbers: 0,
         marked: 0,
+        pins: 0,
     }
 }
 
@@ -99,6 +101,10 @@ fn take(
         }
         Kind::Marked => {
             sums.marked = raised(sums.marked);
+            Ok(())
+        }
+        Kind::Pins => {
+            sums.pins = raised(sums.pins);
             Ok(())
         }
     }

@@ -30,13 +30,15 @@ fn push_title(
     out.extend_from_slice(b"title\n")
 }
 
-// Escaped names, numbers that were left out, and cards on which `$` marks something.
+// Escaped names, numbers that were left out, cards on which `$` marks something, and calls that
+// name pins.
 fn push_words(alloc: Global, out: &mut Vec<u8>, sums: &Sums) -> Result<(), AllocError>
     ensures { OnOk result (out.new.items ≡ out.old.items ++ words_text (seen sums.now)) }
 {
     push_count(alloc, out, b"backslashes", sums.names)?;
     push_count(alloc, out, b"numbers", sums.numbers)?;
-    push_count(alloc, out, b"marked", sums.marked)
+    push_count(alloc, out, b"marked", sums.marked)?;
+    push_count(alloc, out, b"$PINS", sums.pins)
 }
 
 fn push_counts(
@@ -103,7 +105,7 @@ fn push_sums(
 /// in, `scaled NAME N` for each name of sizes that the scale turned, `device NAME N` for each listed name
 /// of which there was a card, `comments N`, `slashes N`,
 /// `PARAMS: N`, `quotes N`, `backslashes N`,
-/// `numbers N` and `marked N`; and `written N cards`. Linear in the changes.
+/// `numbers N`, `marked N` and `$PINS N`; and `written N cards`. Linear in the changes.
 pub fn told_lines(
     alloc: Global,
     has_title: bool,

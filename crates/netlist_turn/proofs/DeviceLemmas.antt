@@ -1,6 +1,7 @@
 -- Words of calls, and counts.
 use Rattle.std.proofs.Common.{◌≡◌, Bool, true, false, List, [], ◌∷◌, ℕ, zero, suc, Some, None, length, refl, ap, Bor}
-use Rattle.std.specs.Prelude.{◌&&◌, not, codes, slice_get, slice_index_or, if◌then◌else◌}
+use Rattle.std.specs.Prelude.{◌&&◌, not, codes, map, slice_get, slice_index_or, if◌then◌else◌}
+use Rattle.std.specs.Global.{Vec}
 use Rattle.std.specs.Str.{bytes_eq}
 use Rattle.spice_cards.specs.Parts.{Param}
 use Rattle.spice_cards.specs.Seen.{words_seen}
@@ -27,6 +28,21 @@ pub word_past : (ws : List (Bor (List ℕ))) (k : ℕ) → slice_get ws k ≡ No
 word_past [] k e = refl
 word_past (x ∷ ws) zero e = absurd cc
 word_past (x ∷ ws) (suc k) e = word_past ws k e
+
+pub texts_long : (ts : List (Vec ℕ)) → length (map (λ (n : Vec ℕ). n.items) ts) ≡ length ts
+texts_long [] = refl
+texts_long (t ∷ ts) = ap suc (texts_long ts)
+
+-- the text of a place
+pub text_there : (ts : List (Vec ℕ)) (k : ℕ) (t : Vec ℕ) → slice_get ts k ≡ Some t → slice_index_or (map (λ (n : Vec ℕ). n.items) ts) k [] ≡ t.items
+text_there [] k t e = absurd cc
+text_there (x ∷ ts) zero t e = let f : x ≡ t = cc in ap (λ (v : Vec ℕ). v.items) f
+text_there (x ∷ ts) (suc k) t e = text_there ts k t e
+
+pub text_past : (ts : List (Vec ℕ)) (k : ℕ) → slice_get ts k ≡ None → slice_index_or (map (λ (n : Vec ℕ). n.items) ts) k [] ≡ []
+text_past [] k e = refl
+text_past (x ∷ ts) zero e = absurd cc
+text_past (x ∷ ts) (suc k) e = text_past ts k e
 
 -- neither the nets nor the counts are wrong
 pub none_wrong : {A : Type 0} (a b : Bool) (x y z : A) → a ≡ true → b ≡ false → z ≡ (if not a then x else if b then y else z)

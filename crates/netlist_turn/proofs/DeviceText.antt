@@ -16,7 +16,7 @@ use Rattle.spice_rows.specs.Sizes.{Limits}
 use Rattle.spice_rows.specs.declared.fault.SpiceFault.{SpiceFault}
 use Rattle.spice_rows.specs.declared.fault.SpiceFault.TheVariants.{UnknownCard}
 use Rattle.netlist_turn.specs.CardLaw.{IsPair, IsWord, kept_words, param_tokens, params_text, turned_params, words_text}
-use Rattle.netlist_turn.specs.Devices.{Device, device_params, device_words, is_written, key_of}
+use Rattle.netlist_turn.specs.Devices.{Device, device_params, device_words, is_written, key_of, net_count}
 use Rattle.netlist_turn.specs.Listed.{device_made, device_told, dropped, has_number, number_told, param_told, params_told, prefix, words_told}
 use Rattle.netlist_turn.specs.Made.{Made, telling}
 use Rattle.netlist_turn.specs.Words.{left_out}
@@ -68,7 +68,7 @@ device_text_is s row kind d m line first words ps =
     let worded : Made = words_told row m line words in
     let numbered : Made = number_told row d worded line kept in
     let same : (params_told kind d.keys numbered line ps).text ≡ m.text =
-    params_text_same kind d.keys numbered line ps ∙ number_or (has_number row d kept) worded line (slice_index_or kept (length d.places) []) ∙ words_text_same row m line words in
+    params_text_same kind d.keys numbered line ps ∙ number_or (has_number row d kept) worded line (slice_index_or kept (net_count d) []) ∙ words_text_same row m line words in
     card_text_is s Listed start line first ws (device_params kind d.keys ps)
     ∙ ap (λ (xs : List (List ℕ)). start.text ++ (words_text (first ∷ xs) ++ said)) (kept_all ws)
     ∙ ap (λ (t : List ℕ). (t ++ prefix row kind) ++ (words_text (first ∷ ws) ++ said)) same

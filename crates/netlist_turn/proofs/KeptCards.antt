@@ -12,12 +12,13 @@ use Rattle.netlist_turn.specs.CardLaw.{kept_words, param_tokens, params_text, tu
 use Rattle.netlist_turn.specs.KeptLaw.{IsQuiet, IsWhole, KeptCardsLaw, KeptStartLaw, is_passed_row, is_silent, saying, tokens_in}
 use Rattle.netlist_turn.specs.Made.{Made, card_made, has_shadow, has_stuck, is_left, telling}
 use Rattle.netlist_turn.specs.Marked.{marks_told, ordered, unmarked}
-use Rattle.netlist_turn.specs.Turning.{after, and_then, by_device, by_fate, card_taken, device_at, drops_if, early_or, end_fate, fate_of, first_taken, is_marked, is_opening, is_out, is_sought, is_unclear, kept_card, moved, nothing, open_fate, opened, ordered_taken, plain_taken, row_taken, turned, turning}
+use Rattle.netlist_turn.specs.Pins.{by_place}
+use Rattle.netlist_turn.specs.Turning.{after, and_then, by_device, by_fate, card_taken, device_at, drops_if, early_or, end_fate, fate_of, first_taken, is_by_pins, is_marked, is_opening, is_out, is_sought, is_unclear, kept_card, moved, nothing, open_fate, opened, ordered_taken, pins_taken, plain_taken, row_taken, turned, turning}
 use Rattle.netlist_turn.specs.Listed.{device_for, dropped, model_of, words_told}
 use Rattle.netlist_turn.specs.declared.device.Device.{Device as ListedDevice}
 use Rattle.netlist_turn.specs.Words.{changes_sizes, first_name, has_escape, left_out, row_of}
 use Rattle.netlist_turn.specs.declared.fault.TurnFault.{TurnFault}
-use Rattle.netlist_turn.specs.declared.fault.TurnFault.TheVariants.{BadForm, EarlyMore, Resized, Shadowed, Unscaled, UnknownCard}
+use Rattle.netlist_turn.specs.declared.fault.TurnFault.TheVariants.{BadForm, EarlyMore, OtherPins, Resized, Shadowed, Unscaled, UnknownCard}
 use Rattle.netlist_turn.specs.declared.made.Where.{Where}
 use Rattle.netlist_turn.specs.declared.made.Where.TheVariants.{Outside, Kept, Left}
 use Rattle.netlist_turn.specs.declared.rows.Row.{Row}
@@ -258,17 +259,36 @@ told_words_at : (row : Row) (m : Made) (line : ℕ) (ws : List (List ℕ)) → (
 told_words_at row m line [] = refl
 told_words_at row m line (w ∷ ws) = told_words_at row (dropped m line w (left_out row w ws)) line ws ∙ dropped_at m line w (left_out row w ws)
 
+abbrev pins_or : Bool → Settings → Made → ℕ → List ℕ → List Token → Result Made TurnFault
+pins_or b s m line first ts = if b then pins_taken s (row_of first) m line first (by_place s ts) else row_taken s (row_of first) m line first ts
+
 abbrev marked_or : Bool → Settings → Made → ℕ → List ℕ → List Token → Result Made TurnFault
 marked_or b s m line first ts =
-    if b then ordered_taken s (row_of first) m line first ts else row_taken s (row_of first) m line first ts
+    if b then ordered_taken s (row_of first) m line first ts else pins_or (is_by_pins s m.at (row_of first) ts) s m line first ts
 
 marked_at : (row : Row) (m : Made) (line : ℕ) (first : List ℕ) (ts : List Token) → (marks_told row m line first ts).at ≡ m.at
 marked_at row m line first ts = told_words_at row m line (unmarked (words_of ts))
 
+by_pins_step : (s : Settings) (m : Made) (line : ℕ) (first : List ℕ) (ts : List Token) (o : Option (List Token)) (k : Made) → IsWhole s → IsIn m.at
+    → pins_taken s (row_of first) m line first o ≡ Ok k → IsStep m (Word first ∷ ts) k
+by_pins_step s m line first ts None k whole inside h = no_ok (OtherPins line) k h
+by_pins_step s m line first ts (Some us) k whole inside h =
+    let step = word_step s (telling m line kind.Pins first) line first us k whole inside h in
+    record {
+      inside = step.inside;
+      quiet = λ q. untold m line kind.Pins first refl (step.quiet q);
+      makes = λ ok q. untold m line kind.Pins first refl (step.quiet q);
+    }
+
+unmarked_step : (s : Settings) (m : Made) (line : ℕ) (first : List ℕ) (ts : List Token) (k : Made) → IsWhole s → IsIn m.at → (b : Bool)
+    → pins_or b s m line first ts ≡ Ok k → IsStep m (Word first ∷ ts) k
+unmarked_step s m line first ts k whole inside true h = by_pins_step s m line first ts (by_place s ts) k whole inside h
+unmarked_step s m line first ts k whole inside false h = word_step s m line first ts k whole inside h
+
 marked_step : (s : Settings) (m : Made) (line : ℕ) (first : List ℕ) (ts : List Token) (k : Made) → IsWhole s → IsIn m.at
     → first_taken s (row_of first) m line first ts ≡ Ok k → (b : Bool) → is_marked s m.at (row_of first) ts ≡ b → IsStep m (Word first ∷ ts) k
 marked_step s m line first ts k whole inside h false e =
-    word_step s m line first ts k whole inside (sym (ap (λ (b : Bool). marked_or b s m line first ts) e) ∙ h)
+    unmarked_step s m line first ts k whole inside (is_by_pins s m.at (row_of first) ts) (sym (ap (λ (b : Bool). marked_or b s m line first ts) e) ∙ h)
 marked_step s m line first ts k whole inside h true e =
     let told : Made = marks_told (row_of first) m line first ts in
     let taken : row_taken s (row_of first) told line first (ordered (row_of first) ts) ≡ Ok k = sym (ap (λ (b : Bool). marked_or b s m line first ts) e) ∙ h in

@@ -4,6 +4,7 @@ pub mod ScaleText
 pub mod CardText
 pub mod DeviceLemmas
 pub mod DeviceText
+pub mod PinLemmas
 pub mod PlainTokens
 pub mod KeptLines
 pub mod Quiet

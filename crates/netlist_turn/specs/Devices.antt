@@ -1,6 +1,6 @@
 -- Devices that calls say: the cards of a list, and what the card of a call of a listed name is.
 use Rattle.std.specs.Prelude.{ℕ, ◌+◌, ◌-◌, ◌==◌, ◌&&◌, ◌||◌, nat_lt, Bool, false}
-use Rattle.std.specs.Prelude.{List, [], ◌∷◌, ◌++◌, length, map, slice_index_or}
+use Rattle.std.specs.Prelude.{List, [], ◌∷◌, ◌++◌, length, map, slice_index_or, take, drop}
 use Rattle.std.specs.Prelude.{Option, Some, None, codes, if◌then◌else◌}
 use Rattle.std.specs.Char.{is_ascii_digit}
 use Rattle.std.specs.List.{list_any, list_all}
@@ -12,10 +12,12 @@ use Rattle.spice_rows.specs.Kinds.{first_key, second_key}
 use Rattle.spice_rows.specs.Names.{is_text}
 use Rattle.netlist_turn.specs.Words.{is_none}
 
--- a listed name: its kind, none where its cards are left out; which net of a call each terminal is
--- on, in the order of a card of the kind; and which keys stand for which parameters of a call
+-- a listed name: its kind, none where its cards are left out; the nets that the list says; which of
+-- a call's nets and these, in this order, each terminal is on, in the order of a card of the kind;
+-- and which keys stand for which parameters of a call
 pub record Device : Type 0 where
   pub kind : Option DeviceKind
+  pub fixed : List (List ℕ)
   pub places : List ℕ
   pub keys : List Param
 
@@ -39,19 +41,47 @@ abbrev pub place_in : List (List ℕ) → ℕ → ℕ → ℕ
 place_in [] k c = k
 place_in (p ∷ ports) k c = if is_text (c ∷ []) p then k else place_in ports (k + 1) c
 
--- the k-th of all, where none is named
-abbrev pub place_at : List (List ℕ) → ℕ → ℕ → ℕ
-place_at ports k c = if is_none ports then k else place_in ports 0 c
+abbrev pub places_in : List (List ℕ) → List ℕ → List ℕ
+places_in ports [] = []
+places_in ports (c ∷ cs) = place_in ports 0 c ∷ places_in ports cs
 
-abbrev pub places_from : List (List ℕ) → ℕ → List ℕ → List ℕ
-places_from ports k [] = []
-places_from ports k (c ∷ cs) = place_at ports k c ∷ places_from ports (k + 1) cs
-
--- no ports, or each once
+-- each port once: there are as many as letters, and each letter stands there
 abbrev pub are_ports : List (List ℕ) → List ℕ → Bool
 are_ports ports places =
-    is_none ports
-    || (length ports == length places && list_all (λ k. nat_lt k (length ports)) places)
+    length ports == length places && list_all (λ k. nat_lt k (length ports)) places
+
+-- ---- nets that the list says: `NET=port:net`
+
+abbrev pub is_net_key : List ℕ → Bool
+is_net_key key = is_text (codes "NET") key
+
+-- a letter, `:` and a name
+abbrev pub is_net_text : List ℕ → Bool
+is_net_text (p ∷ colon ∷ b ∷ name) = colon == 0x3A
+is_net_text text = false
+
+abbrev pub is_net : Param → Bool
+is_net k = is_net_key k.key && is_net_text k.value
+
+-- the ports on such nets, and the nets
+abbrev pub net_ports : List Param → List (List ℕ)
+net_ports [] = []
+net_ports (k ∷ keys) = if is_net k then take 1 k.value ∷ net_ports keys else net_ports keys
+
+abbrev pub net_names : List Param → List (List ℕ)
+net_names [] = []
+net_names (k ∷ keys) = if is_net k then drop 2 k.value ∷ net_names keys else net_names keys
+
+-- the ports of the kind that aren't, in the order of a card
+abbrev pub free_letters : List ℕ → List (List ℕ) → List (List ℕ)
+free_letters [] nets = []
+free_letters (c ∷ cs) nets =
+    if list_any (λ p. is_text (c ∷ []) p) nets then free_letters cs nets
+    else (c ∷ []) ∷ free_letters cs nets
+
+-- the ports that are on a call's nets: those that are named, or all that are free
+abbrev pub call_ports : List (List ℕ) → List ℕ → List (List ℕ) → List (List ℕ)
+call_ports ports letters nets = if is_none ports then free_letters letters nets else ports
 
 -- a key that a card of the kind has
 abbrev pub is_written : DeviceKind → List ℕ → Bool
@@ -65,6 +95,10 @@ is_list_key kind key =
     is_written kind key || is_text (codes "CHECK") key || is_text (codes "AS") key
     || is_text (codes "NF") key
 
+-- that, or a net of a port
+abbrev pub is_list_param : DeviceKind → Param → Bool
+is_list_param kind k = is_list_key kind k.key || is_net k
+
 abbrev pub folded_param : Param → Param
 folded_param p = record { key = folded_bytes p.key; value = folded_bytes p.value }
 
@@ -76,24 +110,41 @@ with_own key keys =
 
 abbrev pub keys_of : DeviceKind → List Param → List Param
 keys_of kind ps =
-    with_own (codes "M") (with_own (second_key kind ∷ [])
-    (with_own (first_key kind ∷ []) (map folded_param ps)))
+    with_own (codes "M") (with_own (second_key kind ∷ []) (with_own (first_key kind ∷ []) ps))
+
+-- the place of each terminal's port among all
+abbrev pub places_among : DeviceKind → List (List ℕ) → Option (List ℕ)
+places_among kind all =
+    if are_ports all (places_in all (letters kind)) then Some (places_in all (letters kind))
+    else None
+
+-- these are the ports of a call, and those on nets that the list says
+abbrev pub places_by : DeviceKind → List (List ℕ) → List Param → Option (List ℕ)
+places_by kind ports keys =
+    places_among kind (call_ports ports (letters kind) (net_ports keys) ++ net_ports keys)
+
+abbrev pub placed : DeviceKind → List Param → Option (List ℕ) → Option Device
+placed kind keys None = None
+placed kind keys (Some places) = Some (record {
+  kind = Some kind;
+  fixed = net_names keys;
+  places = places;
+  keys = keys_of kind keys;
+})
+
+-- by the folded parameters
+abbrev pub by_keys : DeviceKind → List (List ℕ) → List Param → Option Device
+by_keys kind ports keys =
+    if list_all (is_list_param kind) keys then placed kind keys (places_by kind ports keys)
+    else None
 
 abbrev pub of_kind : List (List ℕ) → List Param → Option DeviceKind → Option Device
 of_kind ports ps None = None
-of_kind ports ps (Some kind) =
-    if are_ports ports (places_from ports 0 (letters kind))
-    && list_all (λ p. is_list_key kind p.key) ps
-    then Some (record {
-      kind = Some kind;
-      places = places_from ports 0 (letters kind);
-      keys = keys_of kind ps;
-    })
-    else None
+of_kind ports ps (Some kind) = by_keys kind ports (map folded_param ps)
 
 -- cards of the name are left out
 abbrev pub out : List (List ℕ) → List Param → Option Device
-out [] [] = Some (record { kind = None; places = []; keys = [] })
+out [] [] = Some (record { kind = None; fixed = []; places = []; keys = [] })
 out ports ps = None
 
 -- what the words behind a listed name, and the parameters, say of it
@@ -144,10 +195,20 @@ class_of (k ∷ keys) name = if is_text (codes "AS") k.key then k.value else cla
 abbrev pub called_name : List (List ℕ) → List ℕ
 called_name words = slice_index_or words (length words - 1) []
 
-abbrev pub nets_at : List ℕ → List (List ℕ) → List (List ℕ)
-nets_at [] words = []
-nets_at (k ∷ places) words = slice_index_or words k [] ∷ nets_at places words
+-- how many nets a call has
+abbrev pub net_count : Device → ℕ
+net_count d = length d.places - length d.fixed
+
+-- one of these, or a net that the list says
+abbrev pub net_at : Device → List (List ℕ) → ℕ → List ℕ
+net_at d words k =
+    if nat_lt k (net_count d) then slice_index_or words k []
+    else slice_index_or d.fixed (k - net_count d) []
+
+abbrev pub nets_at : Device → List ℕ → List (List ℕ) → List (List ℕ)
+nets_at d [] words = []
+nets_at d (k ∷ places) words = net_at d words k ∷ nets_at d places words
 
 -- the nets by the terminals, and the class
 abbrev pub device_words : Device → List (List ℕ) → List (List ℕ)
-device_words d words = nets_at d.places words ++ class_of d.keys (called_name words) ∷ []
+device_words d words = nets_at d d.places words ++ class_of d.keys (called_name words) ∷ []

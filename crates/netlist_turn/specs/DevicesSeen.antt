@@ -12,4 +12,9 @@ abbrev pub keys_seen : List Key → List Param
 keys_seen ks = map key_seen ks
 
 abbrev pub device_seen : Device → spec.Device
-device_seen d = record { kind = d.kind; places = d.places.items; keys = keys_seen d.keys.items }
+device_seen d = record {
+  kind = d.kind;
+  fixed = map (λ n. n.items) d.fixed.items;
+  places = d.places.items;
+  keys = keys_seen d.keys.items;
+}

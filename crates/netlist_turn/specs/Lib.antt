@@ -7,6 +7,8 @@ pub mod Made
 pub mod CardLaw
 pub mod Listed
 pub mod Marked
+pub mod Pins
+pub mod PinsSeen
 pub mod DeviceLaw
 pub mod Turning
 pub mod KeptLaw

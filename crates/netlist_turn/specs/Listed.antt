@@ -12,7 +12,7 @@ use Rattle.spice_rows.specs.Kinds.{letter}
 use Rattle.spice_rows.specs.Rows.{begin}
 use Rattle.netlist_turn.specs.CardLaw.{kept_words}
 use Rattle.netlist_turn.specs.Devices.{Device, called_name, device_params, device_words, is_written}
-use Rattle.netlist_turn.specs.Devices.{key_of, stands_for}
+use Rattle.netlist_turn.specs.Devices.{key_of, net_count, stands_for}
 use Rattle.netlist_turn.specs.Made.{Made, card_made, meant, telling, value_for, writing}
 use Rattle.netlist_turn.specs.Words.{is_number, left_out, unquoted}
 use Rattle.netlist_turn.specs.declared.device.Device.{Device as ListedDevice}
@@ -51,13 +51,13 @@ is_of_other row kind first = not (begin first == letter kind)
 -- a resistor's words have a number between its nets and its name
 abbrev pub has_number : Row → Device → List (List ℕ) → Bool
 has_number Resistor d words =
-    length words == length d.places + 2
-    && is_number (slice_index_or words (length d.places) [])
+    length words == net_count d + 2
+    && is_number (slice_index_or words (net_count d) [])
 has_number row d words = false
 
--- the words are a net for each terminal, and the name
+-- the words are as many nets as the list says, and the name
 abbrev pub has_nets : Row → Device → List (List ℕ) → Bool
-has_nets row d words = length words == length d.places + 1 || has_number row d words
+has_nets row d words = length words == net_count d + 1 || has_number row d words
 
 -- ---- counts
 
@@ -103,7 +103,7 @@ words_told row m line (w ∷ ws) =
 abbrev pub number_told : Row → Device → Made → ℕ → List (List ℕ) → Made
 number_told row d m line words =
     if has_number row d words
-    then telling m line Number (slice_index_or words (length d.places) [])
+    then telling m line Number (slice_index_or words (net_count d) [])
     else m
 
 -- a parameter that stands for no key of the card

@@ -92,7 +92,7 @@ abbrev pub by_factor : Made → ℕ → List ℕ → List ℕ → Option Factor 
 by_factor m line key text None = writing m text
 by_factor m line key text (Some factor) = size_made m line key text factor (scaled factor text)
 
--- a value without quotes, with a defined name's value in its place, and by the scale where it is a
+-- a value without quotes or braces, with a defined name's value in its place, and by the scale where it is a
 -- size, and a blank
 abbrev pub value_made : Settings → Row → Made → ℕ → Param → Made
 value_made s row m line p =

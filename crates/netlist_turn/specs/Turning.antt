@@ -12,13 +12,14 @@ use Rattle.netlist_turn.specs.DevicesSeen.{device_seen}
 use Rattle.netlist_turn.specs.Listed.{device_for, device_made, has_nets, has_odd_count, is_of_other}
 use Rattle.netlist_turn.specs.Listed.{may_be_listed, model_of}
 use Rattle.netlist_turn.specs.Marked.{has_marks, marks_told, ordered}
+use Rattle.netlist_turn.specs.Pins.{by_place, has_pins}
 use Rattle.netlist_turn.specs.Words.{changes_sizes, is_number, row_of}
 use Rattle.netlist_turn.specs.Made.{Made, telling, card_made, has_shadow, has_stuck, is_left}
 use Rattle.netlist_turn.specs.declared.rows.Row.{Row}
 use Rattle.netlist_turn.specs.declared.rows.Row.TheVariants.{Device as DeviceRow, Call, Opening, Ending, Plain}
 use Rattle.netlist_turn.specs.declared.rows.Row.TheVariants.{Passed, Capacitor, Resistor, Unknown, Listed}
 use Rattle.netlist_turn.specs.declared.rows.Row.TheVariants.{Diode, Foreign}
-use Rattle.netlist_turn.specs.declared.made.Kind.TheVariants.{Card as CardKind}
+use Rattle.netlist_turn.specs.declared.made.Kind.TheVariants.{Card as CardKind, Pins as PinsKind}
 use Rattle.netlist_turn.specs.declared.made.Where.{Where}
 use Rattle.netlist_turn.specs.declared.made.Where.TheVariants.{Outside, Kept, Left}
 use Rattle.netlist_turn.specs.declared.turn.Fate.{Fate}
@@ -26,6 +27,7 @@ use Rattle.netlist_turn.specs.declared.turn.Fate.TheVariants.{Keeps, Drops, Refu
 use Rattle.netlist_turn.specs.declared.fault.TurnFault.{TurnFault}
 use Rattle.netlist_turn.specs.declared.fault.TurnFault.TheVariants.{UnknownCard, BadForm, Shadowed, EarlyMore, Resized}
 use Rattle.netlist_turn.specs.declared.fault.TurnFault.TheVariants.{Unscaled, DeviceNets, OddCount}
+use Rattle.netlist_turn.specs.declared.fault.TurnFault.TheVariants.{OtherPins}
 use Rattle.netlist_turn.specs.declared.device.Device.{Device as ListedDevice}
 use Rattle.netlist_turn.specs.declared.settings.Settings.{Settings}
 
@@ -127,7 +129,7 @@ device_netted s row kind d m line first words ps =
     else if has_odd_count s d.keys ps then Err (OddCount line)
     else device_said s row kind d m line first words ps
 
--- a card of a listed name: left out, or a card of the kind, whose letter it has, where it is no call
+-- a card of a listed name: left out, or a card of the kind; one that is no call has its letter
 abbrev pub device_by : Settings → Row → Device → Made → ℕ → List ℕ → List (List ℕ) → List Param
     → Option DeviceKind → Result Made TurnFault
 device_by s row d m line first words ps None = Ok (telling m line CardKind first)
@@ -172,6 +174,18 @@ abbrev pub is_marked : Settings → Where → Row → List Token → Bool
 is_marked s at Call ts = false
 is_marked s at row ts = is_sought s at row && has_marks ts
 
+-- a call that isn't left out names pins
+abbrev pub is_by_pins : Settings → Where → Row → List Token → Bool
+is_by_pins s at Call ts = is_sought s at Call && has_pins (words_of ts)
+is_by_pins s at row ts = false
+
+-- it is a call by place, which is told
+abbrev pub pins_taken : Settings → Row → Made → ℕ → List ℕ → Option (List Token)
+    → Result Made TurnFault
+pins_taken s row m line first None = Err (OtherPins line)
+pins_taken s row m line first (Some ts) =
+    row_taken s row (telling m line PinsKind first) line first ts
+
 -- what one card more makes, in the order of other cards
 abbrev pub ordered_taken : Settings → Row → Made → ℕ → List ℕ → List Token → Result Made TurnFault
 ordered_taken s row m line first ts =
@@ -180,6 +194,7 @@ ordered_taken s row m line first ts =
 abbrev pub first_taken : Settings → Row → Made → ℕ → List ℕ → List Token → Result Made TurnFault
 first_taken s row m line first ts =
     if is_marked s m.at row ts then ordered_taken s row m line first ts
+    else if is_by_pins s m.at row ts then pins_taken s row m line first (by_place s ts)
     else row_taken s row m line first ts
 
 -- what one card more makes: it begins with a word

@@ -87,6 +87,9 @@ row_of first =
 abbrev pub is_params : List ℕ → Bool
 is_params w = is_text (codes "PARAMS:") w
 
+abbrev pub is_pins_word : List ℕ → Bool
+is_pins_word w = is_text (codes "$PINS") w
+
 -- a circuit's name stands here: one word, or one and `PARAMS:`
 abbrev pub is_circuit_end : List (List ℕ) → Bool
 is_circuit_end [] = false
@@ -156,11 +159,12 @@ is_area_key Diode key = is_text (codes "A") key
 is_area_key Listed key = is_text (codes "A") key
 is_area_key row key = false
 
--- two equal quotes enclose the value
+-- two equal quotes, or a brace and the one that closes it
+abbrev pub enclose : ℕ → ℕ → Bool
+enclose b c = (is_quote b && c == b) || (b == 0x7B && c == 0x7D)
+
 abbrev pub is_quoted : List ℕ → Bool
-is_quoted v =
-    nat_lt 1 (length v) && is_quote (slice_index v 0)
-    && slice_index v (length v - 1) == slice_index v 0
+is_quoted v = nat_lt 1 (length v) && enclose (slice_index v 0) (slice_index v (length v - 1))
 
 abbrev pub unquoted : List ℕ → List ℕ
 unquoted v = if is_quoted v then slice_range v 1 (length v - 1) else v

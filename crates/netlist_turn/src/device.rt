@@ -1,9 +1,10 @@
 //! What the card of a call of a listed name is.
 
-ghost use Rattle.std.specs.Prelude.{◌≡◌, ◌++◌, [], IfOk, OnOk, slice_index_or};
+ghost use Rattle.std.specs.Prelude.{◌≡◌, ◌++◌, [], IfOk, OnOk, map, slice_index_or};
 ghost use Rattle.spice_cards.specs.Seen.{param_seen, params_seen, words_seen};
 ghost use Rattle.netlist_turn.specs.Devices.{called_name, class_of, device_params, device_words};
-ghost use Rattle.netlist_turn.specs.Devices.{fixed_params, is_fixed, is_written, key_of, nets_at};
+ghost use Rattle.netlist_turn.specs.Devices.{fixed_params, is_fixed, is_written, key_of, net_at};
+ghost use Rattle.netlist_turn.specs.Devices.{net_count, nets_at};
 ghost use Rattle.netlist_turn.specs.Devices.{said_params, stands_for};
 ghost use Rattle.netlist_turn.specs.DevicesSeen.{device_seen, keys_seen};
 
@@ -20,11 +21,13 @@ pub struct Key {
     pub name: Vec<u8>,
 }
 
-/// A listed name: its kind, none where its cards are left out; which net of a call each terminal is
-/// on, in the order of a card of the kind; and which keys stand for which parameters of a call.
+/// A listed name: its kind, none where its cards are left out; the nets that the list says; which of
+/// a call's nets and these, in this order, each terminal is on, in the order of a card of the kind;
+/// and which keys stand for which parameters of a call.
 #[derive(Drop)]
 pub struct Device {
     pub kind: Option<DeviceKind>,
+    pub fixed: Vec<Vec<u8>>,
     pub places: Vec<usize>,
     pub keys: Vec<Key>,
 }
@@ -160,17 +163,48 @@ pub fn called_name<'a>(words: &[&'a [u8]]) -> &'a [u8]
     word_at(words, words.len().saturating_sub(1))
 }
 
+// The net of a place among those that the list says, or an empty one.
+#[tactic(auto, using(crate::proofs::DeviceLemmas::text_there, crate::proofs::DeviceLemmas::text_past))]
+fn fixed_at(fixed: &[Vec<u8>], k: usize) -> &[u8]
+    ensures { result.now ≡ slice_index_or (map (λ n. n.items) fixed.now) k [] }
+{
+    match fixed.get(k) {
+        None => b"",
+        Some(net) => net.as_slice(),
+    }
+}
+
+/// How many nets a call has.
+#[tactic(auto, using(crate::proofs::DeviceLemmas::texts_long))]
+pub fn net_count(device: &Device) -> usize
+    ensures { result ≡ net_count (device_seen device.now) }
+{
+    device.places.len().saturating_sub(device.fixed.len())
+}
+
+// A net of a call, or one that the list says.
+fn net_at<'a>(device: &'a Device, words: &[&'a [u8]], k: usize) -> &'a [u8]
+    ensures { result.now ≡ net_at (device_seen device.now) (words_seen words.now) k }
+{
+    let count = net_count(device);
+    if k < count {
+        word_at(words, k)
+    } else {
+        fixed_at(device.fixed.as_slice(), k - count)
+    }
+}
+
 fn push_nets<'a>(
     out: &mut Vec<&'a [u8]>,
-    places: &[usize],
+    device: &'a Device,
     words: &[&'a [u8]],
 ) -> Result<(), AllocError>
     ensures { OnOk result (words_seen out.new.items ≡ words_seen out.old.items
-        ++ nets_at places.now (words_seen words.now)) }
+        ++ nets_at (device_seen device.now) device.now.places.items (words_seen words.now)) }
 {
-    let mut rest = places;
+    let mut rest = device.places.as_slice();
     'places: while let [place, more @ ..] = rest {
-        out.push(word_at(words, *place))?;
+        out.push(net_at(device, words, *place))?;
         rest = more;
     }
     Ok(())
@@ -186,7 +220,7 @@ pub fn device_words<'a>(
         ≡ device_words (device_seen device.now) (words_seen words.now)) }
 {
     let mut out = Vec::new(alloc);
-    push_nets(&mut out, device.places.as_slice(), words)?;
+    push_nets(&mut out, device, words)?;
     out.push(class_of(device.keys.as_slice(), called_name(words)))?;
     Ok(out)
 }

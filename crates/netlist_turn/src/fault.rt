@@ -33,6 +33,8 @@ pub enum TurnFault {
     OddCount(u64),
     #[error("line {0}: a second .DEVICE of one name")]
     ListedTwice(u64),
+    #[error("line {0}: $PINS that aren't the circuit's pins")]
+    OtherPins(u64),
     #[error("no memory")]
     NoMemory,
 }

@@ -3,10 +3,11 @@
 ghost use Rattle.netlist_turn.specs.CardLaw.{CardTextLaw, CardTokensLaw};
 ghost use Rattle.netlist_turn.specs.DeviceLaw.{DeviceReadLaw, DeviceTextLaw};
 ghost use Rattle.netlist_turn.specs.KeptLaw.{KeptCardsLaw, KeptStartLaw};
-ghost use Rattle.netlist_turn.specs.ScaleLaw.{ProductLaw, SquareLaw, WrittenAreaLaw, WrittenSizeLaw};
+ghost use Rattle.netlist_turn.specs.ScaleLaw.{ProductLaw, SquareLaw, WrittenAreaLaw};
+ghost use Rattle.netlist_turn.specs.ScaleLaw.{WrittenSizeLaw};
 
-/// A length by the scale is exactly the product, an area by the scale is exactly the product with the
-/// scale's square, and what is written of them is read as that size.
+/// A length by the scale is exactly the product, an area by the scale is exactly the product with
+/// the scale's square, and what is written of them is read as that size.
 pub fn scale_laws()
     ensures product { ProductLaw }
     ensures written { WrittenSizeLaw }

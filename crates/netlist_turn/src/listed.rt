@@ -17,7 +17,8 @@ ghost use Rattle.netlist_turn.specs.Seen.{seen, SaysFault};
 ghost use Rattle.netlist_turn.specs.Turning.{device_by, device_netted, device_said, device_taken};
 
 use crate::device::{
-    Device, Key, called_name, device_params, device_words, is_written, key_of, stands_for, word_at,
+    Device, Key, called_name, device_params, device_words, is_written, key_of, net_count,
+    stands_for, word_at,
 };
 use crate::fault::TurnFault;
 use crate::made::{Head, Kind, Turned};
@@ -108,25 +109,26 @@ fn is_of_other(row: Row, kind: DeviceKind, first: &[u8]) -> bool
 }
 
 // Whether a resistor's words have a number between its nets and its name.
-#[tactic(auto, using(crate::proofs::DeviceLemmas::words_long))]
+#[tactic(auto, using(crate::proofs::DeviceLemmas::words_long, crate::proofs::DeviceLemmas::texts_long))]
 fn has_number(row: Row, device: &Device, words: &[&[u8]]) -> bool
     ensures { result ≡ has_number row (device_seen device.now) (words_seen words.now) }
 {
     match row {
         Row::Resistor => {
-            let places = device.places.len();
-            words.len() == places + 2 && is_number(word_at(words, places))
+            let count = device.places.len().saturating_sub(device.fixed.len());
+            words.len() == count + 2 && is_number(word_at(words, count))
         }
         _ => false,
     }
 }
 
-// Whether the words are a net for each terminal, and the name.
-#[tactic(auto, using(crate::proofs::DeviceLemmas::words_long))]
+// Whether the words are as many nets as the list says, and the name.
+#[tactic(auto, using(crate::proofs::DeviceLemmas::words_long, crate::proofs::DeviceLemmas::texts_long))]
 fn has_nets(row: Row, device: &Device, words: &[&[u8]]) -> bool
     ensures { result ≡ has_nets row (device_seen device.now) (words_seen words.now) }
 {
-    words.len() == device.places.len() + 1 || has_number(row, device, words)
+    let count = device.places.len().saturating_sub(device.fixed.len());
+    words.len() == count + 1 || has_number(row, device, words)
 }
 
 // How many devices a call says.
@@ -254,7 +256,7 @@ fn tell_number<'a>(
     if !has_number(row, device, words) {
         return Ok(());
     }
-    made.tell(line, Kind::Number, word_at(words, device.places.len()))
+    made.tell(line, Kind::Number, word_at(words, net_count(device)))
 }
 
 fn tell_params<'a>(
@@ -359,12 +361,12 @@ fn take_said<'a>(
     requires kept { words_seen kept.now ≡ kept_words head.row (words_seen words.now) }
     requires said { params_seen said.now
         ≡ device_params kind (device_seen device.now).keys (params_seen params.now) }
-    ensures made { OnOk result (device_said settings.now head.entry.row kind (device_seen device.now)
-        (seen made.old) head.entry.line head.entry.first.now (words_seen words.now) (params_seen params.now)
-        ≡ Ok (seen made.new)) }
+    ensures made { OnOk result (device_said settings.now head.entry.row kind
+        (device_seen device.now) (seen made.old) head.entry.line head.entry.first.now
+        (words_seen words.now) (params_seen params.now) ≡ Ok (seen made.new)) }
     ensures fault { IfErr result (λ e. SaysFault e (device_said settings.now head.entry.row kind
-        (device_seen device.now) (seen made.old) head.entry.line head.entry.first.now (words_seen words.now)
-        (params_seen params.now))) }
+        (device_seen device.now) (seen made.old) head.entry.line head.entry.first.now
+        (words_seen words.now) (params_seen params.now))) }
 {
     if has_stuck(alloc, settings, Row::Listed, said)? {
         return Err(TurnFault::Unscaled(head.line));
@@ -443,7 +445,8 @@ pub fn take_device<'a>(
     behind: &[Token<'a>],
 ) -> Result<(), TurnFault>
     ensures made { OnOk result (device_taken settings.now head.entry.row (device_seen device.now)
-        (seen made.old) head.entry.line head.entry.first.now (tokens_seen behind.now) ≡ Ok (seen made.new)) }
+        (seen made.old) head.entry.line head.entry.first.now (tokens_seen behind.now)
+        ≡ Ok (seen made.new)) }
     ensures fault { IfErr result (λ e. SaysFault e (device_taken settings.now head.entry.row
         (device_seen device.now) (seen made.old) head.entry.line head.entry.first.now
         (tokens_seen behind.now))) }

@@ -22,7 +22,7 @@ pub enum Kind {
     Params,
     /// The value of a `.PARAM` stands for its name.
     Value,
-    /// The quotes round a value are left out.
+    /// The quotes or braces round a value are left out.
     Quotes,
     /// A backslash stands for itself in the word.
     Name,
@@ -34,6 +34,8 @@ pub enum Kind {
     Number,
     /// What `$` marks stands where it does on other cards.
     Marked,
+    /// A call that names pins is one by place.
+    Pins,
 }
 
 /// A change: the line of its card, what it is, and the word that stood there.

@@ -20,8 +20,8 @@ use text_table::TextTable;
 
 /// What cards are turned by: the names that `.PARAM` cards define, folded, and their values; the
 /// circuits that are kept, all or those that are marked; whether capacitors and resistors are left
-/// out; the factor of sizes in 10^-15, where the text has one; and the names of devices, folded,
-/// and what each is.
+/// out; the factor of sizes in 10^-15, where the text has one; the names of devices, folded, and
+/// what each is; and the names of circuits, folded, and the pins of each.
 #[derive(Drop)]
 pub struct Settings {
     pub names: TextTable,
@@ -34,6 +34,8 @@ pub struct Settings {
     pub scale: Option<u128>,
     pub listed: TextTable,
     pub devices: Vec<Device>,
+    pub pinned: TextTable,
+    pub pins: Vec<Vec<Vec<u8>>>,
 }
 
 /// Whether the circuit of a card's first name is left out.

@@ -9,7 +9,9 @@ ghost use Rattle.netlist_turn.specs.Turning.{after, by_fate, card_taken, drops_i
 ghost use Rattle.netlist_turn.specs.Turning.{fate_of, is_opening, is_out, left_at, moved, open_fate};
 ghost use Rattle.netlist_turn.specs.Turning.{device_at, opened, plain_taken, turned, turning};
 ghost use Rattle.netlist_turn.specs.Turning.{first_taken, is_dropped, is_marked, is_sought};
-ghost use Rattle.netlist_turn.specs.Turning.{is_unclear, ordered_taken, row_taken};
+ghost use Rattle.netlist_turn.specs.Pins.{by_place};
+ghost use Rattle.netlist_turn.specs.Turning.{is_by_pins, is_unclear, ordered_taken, pins_taken};
+ghost use Rattle.netlist_turn.specs.Turning.{row_taken};
 ghost use Rattle.netlist_turn.specs.Words.{row_of};
 ghost use Rattle.std.specs.Option.{option_copied};
 
@@ -18,6 +20,7 @@ use crate::fault::TurnFault;
 use crate::listed::{called_device, may_be_listed, take_device};
 use crate::made::{Head, Kind, Turned, Where};
 use crate::marked::{has_marks, order};
+use crate::pins::{by_place, has_pins};
 use crate::rows::{Row, changes_sizes, row_of};
 use crate::settings::{Settings, has_shadow, has_stuck, is_left};
 use crate::words::is_number;
@@ -268,6 +271,53 @@ fn is_marked(settings: &Settings, at: Where, row: Row, tokens: &[Token]) -> bool
     }
 }
 
+// Whether a call that isn't left out names pins.
+fn is_by_pins(
+    alloc: Global,
+    settings: &Settings,
+    at: Where,
+    row: Row,
+    tokens: &[Token],
+) -> Result<bool, AllocError>
+    ensures { IfOk result (λ b. b ≡ is_by_pins settings.now at row (tokens_seen tokens.now)) }
+{
+    match row {
+        Row::Call => {
+            if !is_sought(settings, at, row) {
+                return Ok(false);
+            }
+            let mut words = Vec::new(alloc);
+            let _rest = read_words(&mut words, tokens)?;
+            Ok(has_pins(&words))
+        }
+        _ => Ok(false),
+    }
+}
+
+// Takes a call that names pins.
+fn take_pins<'a>(
+    alloc: Global,
+    settings: &'a Settings,
+    made: &mut Turned<'a>,
+    head: Head<'a>,
+    behind: &[Token<'a>],
+) -> Result<(), TurnFault>
+    ensures made { OnOk result (pins_taken settings.now head.entry.row (seen made.old)
+        head.entry.line head.entry.first.now (by_place settings.now (tokens_seen behind.now))
+        ≡ Ok (seen made.new)) }
+    ensures fault { IfErr result (λ e. SaysFault e (pins_taken settings.now head.entry.row
+        (seen made.old) head.entry.line head.entry.first.now
+        (by_place settings.now (tokens_seen behind.now)))) }
+{
+    match by_place(alloc, settings, behind)? {
+        None => Err(TurnFault::OtherPins(head.line)),
+        Some(tokens) => {
+            made.tell(head.line, Kind::Pins, head.first)?;
+            take_row(alloc, settings, made, head, &tokens)
+        }
+    }
+}
+
 // Takes a card on which `$` marks something.
 #[tactic(auto, using(crate::proofs::TakenLemmas::ordered_is))]
 fn take_ordered<'a>(
@@ -301,6 +351,9 @@ fn take_first<'a>(
 {
     if is_marked(settings, made.at, head.row, behind) {
         return take_ordered(alloc, settings, made, head, behind);
+    }
+    if is_by_pins(alloc, settings, made.at, head.row, behind)? {
+        return take_pins(alloc, settings, made, head, behind);
     }
     take_row(alloc, settings, made, head, behind)
 }

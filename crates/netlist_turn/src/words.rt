@@ -5,8 +5,8 @@ ghost use Rattle.std.specs.List.{list_any};
 ghost use Rattle.net_names.specs.Folding.{folded_byte, folded_bytes};
 ghost use Rattle.netlist_lines.specs.Cleaning.{is_quote};
 ghost use Rattle.spice_rows.specs.Names.{is_text};
-ghost use Rattle.netlist_turn.specs.Words.{has_escape, is_number, is_params, is_quoted};
-ghost use Rattle.netlist_turn.specs.Words.{unquoted};
+ghost use Rattle.netlist_turn.specs.Words.{enclose, has_escape, is_number, is_params, is_quoted};
+ghost use Rattle.netlist_turn.specs.Words.{is_pins_word, unquoted};
 
 use crate::scale::value;
 use fixed_num::ValueFault;
@@ -72,19 +72,33 @@ pub fn is_params(word: &[u8]) -> bool
     is_text(word, b"PARAMS:")
 }
 
+/// Whether the word is `$PINS`.
+pub fn is_pins_word(word: &[u8]) -> bool
+    ensures { result ≡ is_pins_word word.now }
+{
+    is_text(word, b"$PINS")
+}
+
 fn is_quote(b: u8) -> bool
     ensures { result ≡ is_quote b }
 {
     b == b'\'' || b == b'"'
 }
 
+// Whether these are two equal quotes, or a brace and the one that closes it.
+fn enclose(b: u8, c: u8) -> bool
+    ensures { result ≡ enclose b c }
+{
+    is_quote(b) && c == b || b == b'{' && c == b'}'
+}
+
 fn is_quoted(value: &[u8]) -> bool
     ensures { result ≡ is_quoted value.now }
 {
-    value.len() > 1 && is_quote(value[0]) && value[value.len() - 1] == value[0]
+    value.len() > 1 && enclose(value[0], value[value.len() - 1])
 }
 
-/// A value without the quotes round it.
+/// A value without the quotes or braces round it.
 pub fn unquoted(value: &[u8]) -> &[u8]
     ensures { result.now ≡ unquoted value.now }
 {
